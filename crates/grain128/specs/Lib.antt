@@ -1,0 +1,3 @@
+pub mod Family
+pub mod Grain128
+pub mod Grain128a

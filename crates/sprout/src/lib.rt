@@ -1,0 +1,4 @@
+//! Sprout, one bit to a draw.
+
+pub mod engine;
+pub mod round;
