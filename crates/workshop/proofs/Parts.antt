@@ -1,10 +1,9 @@
 -- Words taken apart, and numbers read.
-use mathlib.Core.Path.{_≡_, refl, sym, ap, subst, _∙_}
+use mathlib.Core.Path.{_≡_, sym, ap, subst, _∙_}
 use mathlib.Core.List.{List, _∷_, _++_}
 use Prim.Native.Nat.{ℕ, _<_, _^_}
-use native.Mathlib.Omega.{arith}
 use denote.Ref.{RefT}
-use lib.ListN.{length, getD}
+use lib.ListN.{getD}
 use Rattle.std.specs.Options.{Cases, isSome}
 use Rattle.std.specs.Orderings.{When}
 use Rattle.std.specs.Reads.{ReadsUnsigned}

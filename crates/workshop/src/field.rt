@@ -56,7 +56,7 @@ pub enum WordFault {
 
 impl Field {
     /// The name of the field: `cipher`, `key`, `iv`, `label`, `session`, `first`, `count`, `message` or `text`.
-    pub fn name(self) -> &'static str
+    pub(crate) fn name(self) -> &'static str
         ensures { λ r. ⌜ now r ≡ field-name self ⌝ }
     {
         match self {
@@ -92,7 +92,7 @@ pub(crate) fn field_named(name: &str) -> Option<Field>
 }
 
 /// The cipher that a word asks for: `grain128`, `grain128x32`, `grain128a`, `grain128ax32` or `sprout`, and none for any other word.
-pub fn cipher_named(word: &str) -> Option<CipherName>
+pub(crate) fn cipher_named(word: &str) -> Option<CipherName>
     ensures { λ r. ⌜ BySome r ((c : CipherName) → now (word .entry) ≡ cipher-word c → ⊥) (λ c. now (word .entry) ≡ cipher-word c) ⌝ }
 {
     match word {
@@ -106,7 +106,7 @@ pub fn cipher_named(word: &str) -> Option<CipherName>
 }
 
 /// The number that decimal digits write, if the text is one or more digits and nothing else and the number fits 32 bits.
-pub fn decimal_number(text: &str) -> Option<u32>
+pub(crate) fn decimal_number(text: &str) -> Option<u32>
     ensures { λ r. ⌜ BySome r ((n : ℕ) → DecimalOf (now (text .entry)) n → ⊥) (DecimalOf (now (text .entry))) ⌝ }
 {
     if text.starts_with('+') {

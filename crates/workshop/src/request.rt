@@ -151,14 +151,16 @@ fn read_message(heap: Global, words: &[String]) -> Result<Option<Vec<u8>>, Fault
     }
 }
 
-/// The request that words make: each gives one field, as `cipher=grain128`, and none is given twice.
+/// The request that words make: each gives one field, as `cipher=sprout` does, and none is given twice.
 ///
-/// `cipher` is a name that `cipher_named` knows; `key`, `iv`, `label` and `message` are hexadecimal digits, as `hex_octets` reads them;
-/// `session`, `first` and `count` are decimal, as `decimal_number` reads them; `text` is the octets of its value as they stand.
-/// `cipher` and `key` are needed, and so is `iv`, or `label` together with `session`. `first` is 0 and `count` is 16 where no word gives it,
-/// and there is a message where `message` or `text` is given, not both.
+/// - `cipher` is `grain128`, `grain128x32`, `grain128a`, `grain128ax32` or `sprout`, and is needed.
+/// - `key` is hexadecimal digits, as `hex_octets` reads them, and is needed.
+/// - `iv` is hexadecimal digits; or else `label` is, and `session` is one or more decimal digits that write a number of 32 bits.
+/// - `first` and `count` are decimal digits too, and are 0 and 16 where no word gives them.
+/// - `message` is hexadecimal digits, or `text` is the octets of the message as they stand, if there is a message.
 ///
-/// A refusal says what is wrong, and it is so; where several things are wrong, which one is answered is not said. Want of memory can be answered for any words.
+/// What a refusal says is wrong is so. Where several things are wrong, the contract does not say which is answered;
+/// want of memory can be answered for any words.
 pub fn read_request(heap: Global, words: &[String]) -> Result<Request, Fault>
     ensures { λ r. ⌜ Cases r (Asked (now (words .entry))) (RequestRefused (now (words .entry))) ⌝ }
 {

@@ -1,10 +1,10 @@
-use mathlib.Core.Path.{_≡_, sym, ap, _∙_}
+use mathlib.Core.Path.{_≡_, sym, _∙_}
 use mathlib.Core.List.{_∷_, [], _++_, append-assoc, append-nil}
-use Prim.Native.Nat.{_+_, _*_, _/_, _%_, _-_, _<_, _≤_}
+use Prim.Native.Nat.{_+_, _*_, _-_, _<_, _≤_}
 use native.Mathlib.Omega.{arith}
-use borrow.Author.Needs.{needs}
-use lib.ListN.{length, drop}
+use lib.ListN.{length, getD}
 use Rattle.std.specs.Of.Vec.{vec-items}
+use Rattle.std.specs.Text.{digitValue}
 use Rattle.std.proofs.shelf.Lists.{at-drop-all}
 use Rattle.workshop.specs.Hex.{unhex}
 use Rattle.workshop.proofs.Exits.{exit}
@@ -28,10 +28,10 @@ loop-i-again c =
     let bs = c .args .digits .now in
     let i = c .loop-i .i in
     let inside : 2 * i + 1 < length bs = omega arith in
-    let pair = unhex-two i bs inside in
-    let items = c .in-Continue-push .ensures tt .items in (
+    let octet = 16 * digitValue (getD bs (2 * i) 0) + digitValue (getD bs (2 * i + 1) 0) in
+    let items : vec-items (c .push .last .self) ≡ vec-items (c .loop-i .octets) ++ octet ∷ [] = rw (← high .0, ← low .0) (c .in-Continue-push .ensures tt .items) in (
       hex-two i bs (c .loop-i .inv .0) (omega arith) (omega arith),
-      rw (items, append-assoc) (rw (high .0, low .0, ← pair) (c .loop-i .inv .1)),
+      rw (items, append-assoc, ← unhex-two i bs inside) (c .loop-i .inv .1),
     )
 
 pub returns-in-Break-digit-at : need.returns-in-Break-digit-at

@@ -1,0 +1,3 @@
+pub mod Rewriting
+pub mod Outcomes
+pub mod Scanning

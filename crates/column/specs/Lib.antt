@@ -1,0 +1,4 @@
+pub mod Columns
+pub mod Bounds
+pub mod Scans
+pub mod Held

@@ -1,0 +1,3 @@
+//! What a mark store is.
+
+pub mod store;

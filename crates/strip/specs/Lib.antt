@@ -1,0 +1,4 @@
+pub mod Strips
+pub mod Bounds
+pub mod Memories
+pub mod Places
