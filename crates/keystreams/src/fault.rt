@@ -3,11 +3,9 @@ ghost use mathlib.Core.Path.{_≡_};
 ghost use Rattle.keystreams.specs.declared.fault.Fault.the-variants.{NoMemory};
 use std::alloc::AllocError;
 use stream::refusal::Refusal;
-use stream::refusal::RefusalDebug;
-use stream::refusal::RefusalPartialEq;
 
 /// Why a request has no answer.
-#[derive(Clone, Copy, PartialEq, Eq, Debug)]
+#[derive(Clone, Copy)]
 pub enum Fault {
     /// The keystream octets asked for are refused.
     Refused(Refusal),

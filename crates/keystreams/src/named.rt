@@ -22,8 +22,8 @@ use stream::figures::Figures;
 use workshop::field::CipherName;
 use workshop::request::Request;
 
-/// The figures of the cipher of this name.
-pub fn figures_named(cipher: CipherName) -> Figures
+// The figures of the cipher of this name.
+pub(crate) fn figures_named(cipher: CipherName) -> Figures
     ensures { λ r. ⌜ r ≡ cipher-of cipher .figures ⌝ }
 {
     match cipher {

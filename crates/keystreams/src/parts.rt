@@ -13,9 +13,14 @@ use stream::draws::forward;
 use stream::engine::Engine;
 use stream::refusal::Refusal;
 
-/// Why so many keystream octets from octet `first` on are refused, if they are:
-/// 1, 2 or 3 as for a load, else 11 where `first` and `size` together are above the ceiling.
-pub fn part_refusal<E: Engine>(key: &[u8], iv: &[u8], first: u32, size: usize) -> Option<Refusal>
+// Why so many keystream octets from octet `first` on are refused, if they are:
+// 1, 2 or 3 as for a load, else 11 where `first` and `size` together are above the ceiling.
+pub(crate) fn part_refusal<E: Engine>(
+    key: &[u8],
+    iv: &[u8],
+    first: u32,
+    size: usize,
+) -> Option<Refusal>
     ensures { λ r. ⌜ mapped number r ≡ use-refusal cipher (now (key .entry)) (now (iv .entry)) first size ⌝ }
 {
     match E::refusal(key, iv) {

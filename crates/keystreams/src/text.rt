@@ -18,8 +18,8 @@ use workshop::field::CipherName;
 use workshop::request::Nonce;
 use workshop::request::Request;
 
-/// The word by which a cipher is asked for.
-pub fn cipher_word(cipher: CipherName) -> &'static str
+// The word by which a cipher is asked for.
+fn cipher_word(cipher: CipherName) -> &'static str
     ensures { λ r. ⌜ now r ≡ cipher-word cipher ⌝ }
 {
     match cipher {

@@ -6,10 +6,11 @@ use Rattle.registers.specs.Registers.{clock, moved, value-at}
 use Rattle.strip.specs.Strips as strip
 use Rattle.strip.specs.Strips.{ones, zeros, sum-of, first-cleared, lowered, cleared}
 use Rattle.column.specs.Columns.{largest, blanks, written, torn-by}
+use Rattle.link.specs.Frames.{octets-number}
 use Rattle.worked.specs.Examples.{WorkedExamples}
 
 pub shown : WorkedExamples
-unfolding bit bits first octet-bits packed times value clock moved value-at ones zeros sum-of first-cleared lowered cleared strip.raised-by largest blanks written torn-by
+unfolding bit bits first octet-bits packed times value clock moved value-at ones zeros sum-of first-cleared lowered cleared strip.raised-by largest blanks written torn-by octets-number
 shown = record {
   grain-output = refl;
   grain-new = refl;
@@ -27,4 +28,10 @@ shown = record {
   column-torn-mark = refl;
   column-torn-left = refl;
   column-torn-late = refl;
+  first-place = refl;
+  then-refused = refl;
+  second-place = refl;
+  frame-header = refl;
+  late-distance = refl;
+  late-end = refl;
 }

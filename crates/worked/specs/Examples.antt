@@ -2,7 +2,8 @@
 use mathlib.Core.Path.{_≡_}
 use mathlib.Core.Bool.{Bool, true, false}
 use mathlib.Core.List.{List, [], _∷_}
-use Prim.Native.Nat.{ℕ, min}
+use Prim.Native.Nat.{ℕ, _+_, min}
+use lib.IntN.{negsuc}
 use lib.ListN.{getD, replicate}
 use Rattle.std.specs.declared.option.Option.{Option}
 use Rattle.std.specs.declared.option.Option.the-variants.{Some, None}
@@ -14,6 +15,9 @@ use Rattle.grain128.specs.Grain128a as grain128a
 use Rattle.sprout.specs.Sprout as sprout
 use Rattle.strip.specs.Strips as strip
 use Rattle.column.specs.Columns as column
+use Rattle.link.specs.Frames.{header, frame, frame-place, frame-length}
+use Rattle.link.specs.Senders.{send-refusal}
+use Rattle.link.specs.Receivers.{distance-to}
 
 -- so many zero octets
 abbrev pub zeros : ℕ → List ℕ
@@ -40,6 +44,10 @@ worn-strip = 0xFE ∷ 0x7F ∷ []
 
 abbrev pub blank-pair : List ℕ
 blank-pair = 0xFFFF_FFFF ∷ 0xFFFF_FFFF ∷ []
+
+-- a frame of session 2 that starts at place 4 and has six octets of payload
+abbrev pub late-frame : List ℕ
+late-frame = frame 2 4 (zeros 6)
 
 pub record WorkedExamples : Type 0 where
   -- Grain-128, zero key and IV: the first initialisation clock has z 0, new s 1 and new b 0
@@ -68,3 +76,12 @@ pub record WorkedExamples : Type 0 where
   pub column-torn-left : column.column-left (column.torn-by 1 0 0 blank-pair) ≡ 0
   -- torn there after one write, with junk FFFFFFFE hex: mark 1
   pub column-torn-late : column.column-mark (column.torn-by 1 1 0xFFFF_FFFE blank-pair) ≡ 1
+  -- at allowance 10, plains of 4, 7 and 6 octets give place 0, refusal 11 and place 4, into buffers that take any frame
+  pub first-place : send-refusal 0 10 4 1034 ≡ None
+  pub then-refused : send-refusal (0 + 4) 10 7 1034 ≡ Some 11
+  pub second-place : send-refusal (0 + 4) 10 6 1034 ≡ None
+  -- the header of session 2, place 4, length 1
+  pub frame-header : header 2 4 1 ≡ 0x02 ∷ 0x00 ∷ 0x00 ∷ 0x00 ∷ 0x04 ∷ 0x00 ∷ 0x00 ∷ 0x00 ∷ 0x01 ∷ 0x00 ∷ []
+  -- a receiver that stands at 10 in session 2, given place 4 and length 6, answers -6 and stands at 10
+  pub late-distance : distance-to (Some 2) 10 late-frame ≡ negsuc 5
+  pub late-end : frame-place late-frame + frame-length late-frame ≡ 10

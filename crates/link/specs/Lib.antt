@@ -1,0 +1,4 @@
+pub mod Frames
+pub mod Sessions
+pub mod Senders
+pub mod Receivers

@@ -1,0 +1,4 @@
+//! The link: frames, senders and receivers.
+
+pub mod frame;
+pub mod pairing;

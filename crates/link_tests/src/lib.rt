@@ -1,0 +1,8 @@
+//! Tests that run sender and receiver against each other.
+
+#[cfg(test)]
+mod exchanges;
+#[cfg(test)]
+mod refusals;
+#[cfg(test)]
+mod shared;
