@@ -13,10 +13,10 @@ copied-part : (payload copied out : List ℕ) (n : ℕ)
 copied-part payload copied out n same size = take-at copied (drop n out) n (ap length same ∙ sym size) ∙ same
 
 -- a copy at the start of a buffer, covered in place
-covered-part : (c : Cipher) (s : c .State) (payload copied covered out : List ℕ) (n : ℕ)
+covered-piece : (c : Cipher) (s : c .State) (payload copied covered out : List ℕ) (n : ℕ)
     → copied ≡ payload → n ≡ length payload → covered ≡ cover c s (take n (copied ++ drop n out))
     → covered ++ drop n (copied ++ drop n out) ≡ cover c s payload ++ drop (length payload) out
-covered-part c s payload copied covered out n same size done =
+covered-piece c s payload copied covered out n same size done =
     rw (done, copied-part payload copied out n same size, drop-at copied (drop n out) n (ap length same ∙ sym size), size)
 
 pub returns : need.returns
@@ -25,6 +25,6 @@ returns g c =
     let same = c .copy-from-slice .ensures .after in
     let part = copied-part (c .args .payload .now) (c .copy-from-slice .last .self) (c .args .out .now) (length (c .args .payload .now) - 0) same (omega arith) in
     record {
-      plain = covered-part cipher _ _ _ _ _ _ same (omega arith) (c .cover .ensures .covered);
+      plain = covered-piece cipher _ _ _ _ _ _ same (omega arith) (c .cover .ensures .covered);
       moves = c .cover .ensures .moves ∙ ap (λ xs. later cipher (8 * length xs) (g .E·Engine .state (c .args .engine .now))) part;
     }
