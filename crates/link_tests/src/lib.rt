@@ -5,4 +5,6 @@ mod exchanges;
 #[cfg(test)]
 mod refusals;
 #[cfg(test)]
+mod runs;
+#[cfg(test)]
 mod shared;
