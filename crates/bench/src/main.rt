@@ -2,6 +2,8 @@
 //!
 //! A scenario has one step on a line. The transcript has a row for each line, with what it answered, and then the totals.
 //! The status is 0 where every line is good, and 1 where one is bad; all other lines are made nevertheless.
+#![tactic(auto)]
+
 use bench_run::conduct::conduct;
 use std::alloc::{AllocError, Global};
 use std::io::Read;

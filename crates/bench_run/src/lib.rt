@@ -1,4 +1,5 @@
 //! The bench's work: the lines of a scenario in, its transcript out.
+#![tactic(auto)]
 
 pub mod conduct;
 pub mod note;

@@ -1,4 +1,5 @@
 //! Tests of the bench.
+#![tactic(auto)]
 
 #[cfg(test)]
 mod bad_lines;

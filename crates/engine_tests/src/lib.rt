@@ -1,4 +1,5 @@
 //! Tests that run the engines: printed vectors, one stride against the other, steps back, refusals, session IVs and covering.
+#![tactic(auto)]
 
 #[cfg(test)]
 mod covering;

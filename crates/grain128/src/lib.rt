@@ -1,4 +1,5 @@
 //! Grain-128 and Grain-128a: one engine of stride 1 and one of stride 32 each.
+#![tactic(auto)]
 
 mod family;
 pub mod parallel128;

@@ -1,6 +1,8 @@
 //! Prints keystream octets of a cipher, and a message covered with them and uncovered again.
 //!
 //! The words of the command line, or where it has none those of the standard input, make a request, as `cipher=grain128 key=..`.
+#![tactic(auto)]
+
 use keystreams::replies::{Reply, reply_to};
 use std::{env, io};
 use workshop::words::split_words;

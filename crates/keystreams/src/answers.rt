@@ -38,9 +38,9 @@ fn keystream_from<E: Engine>(
     count: u32,
 ) -> Result<Vec<u8>, Fault>
     ensures { MatchResult result
-        (λ v. (use_refusal cipher key.now iv.now first count ≡ None)
-        × (v.items ≡ keystream_octets cipher key.now iv.now first count))
-        (KeystreamRefused cipher key.now iv.now first count) }
+        (λ v. (use_refusal E.cipher key.now iv.now first count ≡ None)
+        × (v.items ≡ keystream_octets E.cipher key.now iv.now first count))
+        (KeystreamRefused E.cipher key.now iv.now first count) }
 {
     if let Some(refusal) = part_refusal::<E>(key, iv, first, count as usize) {
         return Err(Fault::Refused(refusal));
@@ -62,9 +62,9 @@ fn covered_copy<E: Engine>(
     octets: &[u8],
 ) -> Result<Vec<u8>, Fault>
     ensures { MatchResult result
-        (λ v. (use_refusal cipher key.now iv.now first (length octets.now) ≡ None)
-        × (v.items ≡ covering cipher (place cipher key.now iv.now first) octets.now))
-        (CoverRefused cipher key.now iv.now first (length octets.now)) }
+        (λ v. (use_refusal E.cipher key.now iv.now first (length octets.now) ≡ None)
+        × (v.items ≡ covering E.cipher (place E.cipher key.now iv.now first) octets.now))
+        (CoverRefused E.cipher key.now iv.now first (length octets.now)) }
 {
     let mut copy = Vec::from_slice(heap, octets)?;
     match cover_from(engine, key, iv, first, copy.as_mut_slice()) {
@@ -83,9 +83,9 @@ fn message_from<E: Engine>(
     message: &[u8],
 ) -> Result<Covered, Fault>
     ensures { MatchResult result
-        (λ v. (use_refusal cipher key.now iv.now first (length message.now) ≡ None)
-        × CoveredFrom cipher (place cipher key.now iv.now first) message.now v)
-        (CoverRefused cipher key.now iv.now first (length message.now)) }
+        (λ v. (use_refusal E.cipher key.now iv.now first (length message.now) ≡ None)
+        × CoveredFrom E.cipher (place E.cipher key.now iv.now first) message.now v)
+        (CoverRefused E.cipher key.now iv.now first (length message.now)) }
 {
     let plain = Vec::from_slice(heap, message)?;
     let covered = covered_copy(heap, engine, key, iv, first, message)?;

@@ -1,4 +1,5 @@
 //! Keystreams of the ciphers by their names: parts of a keystream, the answer to a request, and its text.
+#![tactic(auto)]
 
 pub mod answers;
 pub mod fault;

@@ -41,9 +41,9 @@ fn place_at<E: Engine>(
     size: usize,
 ) -> Result<(), Refusal>
     ensures { MatchResult result
-        (λ _. (use_refusal cipher key.now iv.now first size ≡ None)
-        × (state engine.new ≡ place cipher key.now iv.now first))
-        (λ e. (use_refusal cipher key.now iv.now first size ≡ Some (number e))
+        (λ _. (use_refusal E.cipher key.now iv.now first size ≡ None)
+        × (E.state engine.new ≡ place E.cipher key.now iv.now first))
+        (λ e. (use_refusal E.cipher key.now iv.now first size ≡ Some (number e))
         × (engine.new ≡ engine.old)) }
 {
     match part_refusal::<E>(key, iv, first, size) {
@@ -70,10 +70,10 @@ pub fn cover_from<E: Engine>(
     octets: &mut [u8],
 ) -> Result<(), Refusal>
     ensures { MatchResult result
-        (λ _. (use_refusal cipher key.now iv.now first (length octets.old) ≡ None)
-        × (octets.new ≡ covering cipher (place cipher key.now iv.now first) octets.old)
-        × (state engine.new ≡ place cipher key.now iv.now (first + length octets.old)))
-        (λ e. (use_refusal cipher key.now iv.now first (length octets.old) ≡ Some (number e))
+        (λ _. (use_refusal E.cipher key.now iv.now first (length octets.old) ≡ None)
+        × (octets.new ≡ covering E.cipher (place E.cipher key.now iv.now first) octets.old)
+        × (E.state engine.new ≡ place E.cipher key.now iv.now (first + length octets.old)))
+        (λ e. (use_refusal E.cipher key.now iv.now first (length octets.old) ≡ Some (number e))
         × (octets.new ≡ octets.old)
         × (engine.new ≡ engine.old)) }
 {
@@ -97,10 +97,10 @@ pub fn write_keystream<E: Engine>(
     out: &mut [u8],
 ) -> Result<(), Refusal>
     ensures { MatchResult result
-        (λ _. (use_refusal cipher key.now iv.now first (length out.old) ≡ None)
-        × (out.new ≡ keystream_octets cipher key.now iv.now first (length out.old))
-        × (state engine.new ≡ place cipher key.now iv.now (first + length out.old)))
-        (λ e. (use_refusal cipher key.now iv.now first (length out.old) ≡ Some (number e))
+        (λ _. (use_refusal E.cipher key.now iv.now first (length out.old) ≡ None)
+        × (out.new ≡ keystream_octets E.cipher key.now iv.now first (length out.old))
+        × (E.state engine.new ≡ place E.cipher key.now iv.now (first + length out.old)))
+        (λ e. (use_refusal E.cipher key.now iv.now first (length out.old) ≡ Some (number e))
         × (out.new ≡ out.old)
         × (engine.new ≡ engine.old)) }
 {

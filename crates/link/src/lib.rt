@@ -1,4 +1,5 @@
 //! The link: frames, senders and receivers.
+#![tactic(auto)]
 
 pub mod frame;
 pub mod pairing;

@@ -11,8 +11,8 @@ use stream::session::session_iv;
 
 // Whether the IVs of a label are forbidden, where key and label have the cipher's lengths.
 fn forbidden<E: Engine>(key: &[u8], label: &[u8]) -> bool
-    requires { (length key.now ≡ cipher.figures.key) × (length label.now ≡ cipher.figures.label) }
-    ensures { result ≡ cipher.forbids (session_iv label.now 0) }
+    requires { (length key.now ≡ E.cipher.figures.key) × (length label.now ≡ E.cipher.figures.label) }
+    ensures { result ≡ E.cipher.forbids (session_iv label.now 0) }
 {
     let mut iv = [0; 16];
     match session_iv(label, 0, &mut iv) {
@@ -23,7 +23,7 @@ fn forbidden<E: Engine>(key: &[u8], label: &[u8]) -> bool
 
 /// The refusal that a key, a label and an allowance meet, if any: the first that applies of 1, 2, 3 and 4.
 pub fn pairing_refusal<E: Engine>(key: &[u8], label: &[u8], allowance: u32) -> Option<Refusal>
-    ensures { option_map number result ≡ pair_refusal cipher key.now label.now allowance }
+    ensures { option_map number result ≡ pair_refusal E.cipher key.now label.now allowance }
 {
     let figures = E::figures();
     if key.len() != figures.key {
@@ -42,9 +42,9 @@ pub fn pairing_refusal<E: Engine>(key: &[u8], label: &[u8], allowance: u32) -> O
 /// Sets an engine to the start of a session, given by its key, label and number.
 /// Where a load of that key and the session's IV is refused, the engine is left as it was.
 pub fn load_session<E: Engine>(engine: &mut E, key: &[u8], label: &[u8], session: u32)
-    ensures starts { load_refusal cipher key.now (session_iv label.now session) ≡ None
-        → state engine.new ≡ cipher.start key.now (session_iv label.now session) }
-    ensures keeps { (load_refusal cipher key.now (session_iv label.now session) ≢ None)
+    ensures starts { load_refusal E.cipher key.now (session_iv label.now session) ≡ None
+        → E.state engine.new ≡ E.cipher.start key.now (session_iv label.now session) }
+    ensures keeps { (load_refusal E.cipher key.now (session_iv label.now session) ≢ None)
         → engine.new ≡ engine.old }
 {
     let mut iv = [0; 16];

@@ -1,4 +1,5 @@
 //! Tests that run sender and receiver against each other.
+#![tactic(auto)]
 
 #[cfg(test)]
 mod exchanges;

@@ -1,3 +1,4 @@
 //! What a mark store is.
+#![tactic(auto)]
 
 pub mod store;

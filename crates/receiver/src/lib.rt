@@ -1,4 +1,6 @@
 //! The receiver: it opens frames, in order, late or again, of any session under the key that it was paired with.
+#![tactic(auto)]
+
 ghost use Rattle.std.specs.Prelude.{◌≡◌, length, Some, None, MatchResult};
 ghost use Rattle.stream.specs.Refusals.{number};
 ghost use Rattle.link.specs.Receivers.{receive_refusal};

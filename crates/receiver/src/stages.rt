@@ -16,8 +16,8 @@ use stream::engine::{Engine, Reversible};
 fn loaded<E: Engine>(engine: &mut E, pairing: Pairing, session: u32) -> Standing
     ensures session { result.session ≡ Some session }
     ensures place { result.place ≡ 0 }
-    ensures stands { Stands cipher (known cipher (Some pairing)) None 0 (state engine.old)
-        → Stands cipher (known cipher (Some pairing)) (Some session) 0 (state engine.new) }
+    ensures stands { Stands E.cipher (known E.cipher (Some pairing)) None 0 (E.state engine.old)
+        → Stands E.cipher (known E.cipher (Some pairing)) (Some session) 0 (E.state engine.new) }
 {
     let figures = E::figures();
     let (key_octets, label_octets) = (figures.key, figures.label);
@@ -34,8 +34,8 @@ fn loaded<E: Engine>(engine: &mut E, pairing: Pairing, session: u32) -> Standing
 fn turned<E: Engine>(engine: &mut E, pairing: Pairing, standing: Standing, session: u32) -> Standing
     ensures session { result.session ≡ Some session }
     ensures place { result.place ≡ place_for standing.session standing.place session }
-    ensures stands { Stands cipher (known cipher (Some pairing)) standing.session standing.place (state engine.old)
-        → Stands cipher (known cipher (Some pairing)) (Some session) result.place (state engine.new) }
+    ensures stands { Stands E.cipher (known E.cipher (Some pairing)) standing.session standing.place (E.state engine.old)
+        → Stands E.cipher (known E.cipher (Some pairing)) (Some session) result.place (E.state engine.new) }
 {
     match standing.session {
         Some(present) => {
@@ -68,9 +68,9 @@ fn reach<E: Reversible>(engine: &mut E, from: u32, to: u32) -> i32
 // Writes a payload uncovered at the start of a buffer, and nothing beyond it. The engine moves on by the payload.
 fn uncover<E: Engine>(engine: &mut E, payload: &[u8], out: &mut [u8])
     requires { length payload.now ≤ length out.old }
-    ensures plain { out.new ≡ covering cipher (state engine.old) payload.now
+    ensures plain { out.new ≡ covering E.cipher (E.state engine.old) payload.now
         ++ drop (length payload.now) out.old }
-    ensures moves { state engine.new ≡ later cipher (8 * length payload.now) (state engine.old) }
+    ensures moves { E.state engine.new ≡ later E.cipher (8 * length payload.now) (E.state engine.old) }
 {
     out[0..payload.len()].copy_from_slice(payload);
     cover(engine, &mut out[0..payload.len()]);

@@ -53,13 +53,13 @@ fn moved_up(r: u128, x: u64) -> u128
 
 /// Clocks a pair of registers and takes their output: the smallest of `n`, `stride` and the width of the taps.
 pub fn clocked<T: Taps>(taps: T, pair: Pair, n: u32, stride: u32) -> Clocked
-    ensures count { result.count ≡ min n (min stride (shape taps).width) }
-    ensures drawn { result.bits ≡ packed (first (min n (min stride (shape taps).width)) (λ p.
-        value_at (times p (clock (shape taps).linear (shape taps).nonlinear) (held_in (shape taps).size pair))
-        (shape taps).output)) }
-    ensures moves { held_in (shape taps).size result.pair
-        ≡ times (min n (min stride (shape taps).width)) (clock (shape taps).linear (shape taps).nonlinear)
-        (held_in (shape taps).size pair) }
+    ensures count { result.count ≡ min n (min stride (T.shape taps).width) }
+    ensures drawn { result.bits ≡ packed (first (min n (min stride (T.shape taps).width)) (λ p.
+        value_at (times p (clock (T.shape taps).linear (T.shape taps).nonlinear) (held_in (T.shape taps).size pair))
+        (T.shape taps).output)) }
+    ensures moves { held_in (T.shape taps).size result.pair
+        ≡ times (min n (min stride (T.shape taps).width)) (clock (T.shape taps).linear (T.shape taps).nonlinear)
+        (held_in (T.shape taps).size pair) }
 {
     let count = n.min(stride.min(taps.width()));
     if count == 0 {
@@ -84,10 +84,10 @@ pub fn clocked<T: Taps>(taps: T, pair: Pair, n: u32, stride: u32) -> Clocked
 
 /// Clocks a pair of registers `m` times, with the output added to both new bits.
 fn initialised_by<T: Taps>(taps: T, pair: Pair, m: u32) -> Pair
-    requires { (1 ≤ m) × (m ≤ (shape taps).width) }
-    ensures { held_in (shape taps).size result
-        ≡ times m (clock ((shape taps).linear ⊕ (shape taps).output) ((shape taps).nonlinear ⊕ (shape taps).output))
-        (held_in (shape taps).size pair) }
+    requires { (1 ≤ m) × (m ≤ (T.shape taps).width) }
+    ensures { held_in (T.shape taps).size result
+        ≡ times m (clock ((T.shape taps).linear ⊕ (T.shape taps).output) ((T.shape taps).nonlinear ⊕ (T.shape taps).output))
+        (held_in (T.shape taps).size pair) }
 {
     let size = taps.size();
     let s = window(pair.linear);
@@ -100,9 +100,9 @@ fn initialised_by<T: Taps>(taps: T, pair: Pair, m: u32) -> Pair
 
 /// Clocks a pair of registers so many times, with the output added to both new bits at each clock.
 pub fn initialised<T: Taps>(taps: T, pair: Pair, clocks: u32) -> Pair
-    ensures { held_in (shape taps).size result
-        ≡ times clocks (clock ((shape taps).linear ⊕ (shape taps).output) ((shape taps).nonlinear ⊕ (shape taps).output))
-        (held_in (shape taps).size pair) }
+    ensures { held_in (T.shape taps).size result
+        ≡ times clocks (clock ((T.shape taps).linear ⊕ (T.shape taps).output) ((T.shape taps).nonlinear ⊕ (T.shape taps).output))
+        (held_in (T.shape taps).size pair) }
 {
     let mut reached = pair;
     let mut left = clocks;
@@ -124,10 +124,10 @@ fn bit_at(r: u128, i: u32) -> u64
 
 /// Undoes one clock of a pair of registers.
 pub fn undone<T: Taps>(taps: T, pair: Pair) -> Pair
-    ensures found { clock (shape taps).linear (shape taps).nonlinear (held_in (shape taps).size result)
-        ≡ held_in (shape taps).size pair }
-    ensures alone { (t : Registers) → clock (shape taps).linear (shape taps).nonlinear t ≡ held_in (shape taps).size pair
-        → held_in (shape taps).size result ≡ t }
+    ensures found { clock (T.shape taps).linear (T.shape taps).nonlinear (held_in (T.shape taps).size result)
+        ≡ held_in (T.shape taps).size pair }
+    ensures alone { (t : Registers) → clock (T.shape taps).linear (T.shape taps).nonlinear t ≡ held_in (T.shape taps).size pair
+        → held_in (T.shape taps).size result ≡ t }
 {
     let top = taps.size() - 1;
     let s = window(moved_up(pair.linear, 0));

@@ -1,4 +1,5 @@
 //! Pairs of shift registers that are clocked many times at once and back again.
+#![tactic(auto)]
 
 pub mod clocks;
 mod macros;

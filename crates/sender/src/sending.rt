@@ -40,9 +40,9 @@ fn sending_refusal(progress: Progress, size: usize, room: usize) -> Option<Refus
 // Writes the frame of a plain at the start of a buffer that has room for it.
 fn write_frame<E: Engine>(engine: &mut E, progress: Progress, plain: &[u8], out: &mut [u8])
     requires { (length plain.now ≤ 1024) × (10 + length plain.now ≤ length out.old) }
-    ensures written { out.new ≡ sent_frame cipher progress.session progress.place (state engine.old) plain.now
+    ensures written { out.new ≡ sent_frame E.cipher progress.session progress.place (E.state engine.old) plain.now
         ++ drop (10 + length plain.now) out.old }
-    ensures moves { state engine.new ≡ later cipher (8 * length plain.now) (state engine.old) }
+    ensures moves { E.state engine.new ≡ later E.cipher (8 * length plain.now) (E.state engine.old) }
 {
     let end = 10 + plain.len();
     out[10..end].copy_from_slice(plain);

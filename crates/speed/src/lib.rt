@@ -1,4 +1,5 @@
 //! What a C program calls to time the link: covering, sending, receiving, and the two mark stores. Nothing is allocated.
+#![tactic(auto)]
 
 mod covering;
 mod links;

@@ -1,4 +1,5 @@
 //! Sprout, one bit to a draw.
+#![tactic(auto)]
 
 pub mod engine;
 pub mod round;

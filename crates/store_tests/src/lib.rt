@@ -1,4 +1,5 @@
 //! Tests that run the two mark stores on their edges.
+#![tactic(auto)]
 
 #[cfg(test)]
 mod columns;

@@ -9,8 +9,8 @@ use crate::engine::{Engine, Reversible};
 /// The next bits of an engine at any stride, packed first bit lowest: as many as the smaller of `n` and 32.
 /// The engine moves on by as many states.
 pub fn take_bits<E: Engine>(engine: &mut E, n: u32) -> u32
-    ensures taken { result ≡ packed (stream cipher (min n 32) (state engine.old)) }
-    ensures moves { state engine.new ≡ later cipher (min n 32) (state engine.old) }
+    ensures taken { result ≡ packed (stream E.cipher (min n 32) (E.state engine.old)) }
+    ensures moves { E.state engine.new ≡ later E.cipher (min n 32) (E.state engine.old) }
 {
     let wanted = n.min(32);
     let mut have = 0u32;
@@ -38,8 +38,8 @@ fn mix(octets: &mut [u8], word: u32)
 /// Covers octets in place with the keystream from the engine's present state. The engine moves on by eight states an octet.
 /// Covering once more from the same state uncovers them.
 pub fn cover<E: Engine>(engine: &mut E, octets: &mut [u8])
-    ensures covered { octets.new ≡ covering cipher (state engine.old) octets.old }
-    ensures moves { state engine.new ≡ later cipher (8 * length octets.old) (state engine.old) }
+    ensures covered { octets.new ≡ covering E.cipher (E.state engine.old) octets.old }
+    ensures moves { E.state engine.new ≡ later E.cipher (8 * length octets.old) (E.state engine.old) }
 {
     let mut done = 0;
     while done < octets.len() {
@@ -52,7 +52,7 @@ pub fn cover<E: Engine>(engine: &mut E, octets: &mut [u8])
 
 /// Moves an engine forward by the states of that many octets, eight an octet.
 pub fn forward<E: Engine>(engine: &mut E, octets: u32)
-    ensures { state engine.new ≡ later cipher (8 * octets) (state engine.old) }
+    ensures { E.state engine.new ≡ later E.cipher (8 * octets) (E.state engine.old) }
 {
     let mut left = 8 * octets as u64;
     while left > 0 {

@@ -1,4 +1,5 @@
 //! What an engine is: traits, refusals, and code that works over any engine.
+#![tactic(auto)]
 
 pub mod draws;
 pub mod engine;

@@ -1,4 +1,5 @@
 //! Text that people write and read: hexadecimal digits, dumps, words, the names of ciphers and decimal numbers.
+#![tactic(auto)]
 
 pub mod dump;
 pub mod hex;

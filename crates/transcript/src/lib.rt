@@ -1,4 +1,5 @@
 //! What a run did, as text: a line for each step of a sender and of a receiver, and the totals at the end.
+#![tactic(auto)]
 
 pub mod counts;
 pub mod text;
