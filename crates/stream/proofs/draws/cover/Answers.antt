@@ -63,7 +63,7 @@ loop-done-preserved g c =
     let cipher = g.E.Engine.cipher in
     let start = g.E.Engine.state c.args.engine.now in
     let inv = c.loop-done.invariant in
-    let word = c.take-bits-word.ensures in (
+    let word = c.take_bits-word.ensures in (
       omega arith,
       part_covered cipher _ _ c.loop-done.octets _ _ _ _ _ _ (omega arith) (omega arith) (omega arith)
           word.taken word.moves c.mix.auto.octets c.mix.ensures

@@ -32,9 +32,9 @@ three_parts label iv a b d session h p q r head same four rest a-is b-is d-is =
 
 pub returns : goal.returns
 returns c =
-    let octets = c.copy-from-slice-2.ensures.after ∙ c.to-le-bytes-octets.ensures in (
+    let octets = c.copy_from_slice-2.ensures.after ∙ c.to_le_bytes-octets.ensures in (
       refl,
       omega arith,
       three_parts _ _ _ _ _ _ _ _ _ _ c.min-head.ensures (omega arith) (omega arith) (omega arith)
-          c.copy-from-slice.ensures.after octets c.copy-from-slice-3.ensures.after,
+          c.copy_from_slice.ensures.after octets c.copy-from-slice-3.ensures.after,
     )
