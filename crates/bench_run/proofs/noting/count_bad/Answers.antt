@@ -6,7 +6,7 @@ use Rattle.bench_run.specs.declared.note.Note.{Note}
 use Rattle.bench_run.specs.declared.note.Note.TheVariants.{Taken}
 use Rattle.bench_run.proofs.Lines.{itself}
 use Rattle.bench_run.proofs.noting.count_bad.Goals as goal
-use Rattle.bench_run.proofs.noting.count_bad.Goals.{then-is-bad, else-is-bad}
+use Rattle.bench_run.proofs.noting.count_bad.Goals.{then-is_bad, else-is_bad}
 
 pub loop-note-preserved : goal.loop-note-preserved
 loop-note-preserved c =
@@ -14,9 +14,9 @@ loop-note-preserved c =
     let notes = c.args.notes.now in
     let here = get_or notes old.note-index (Taken NoStep) in
     let read = itself notes old.note-index (Taken NoStep) c.loop-note-test.true in
-    elim c.if-is-bad.branch [
-      | then-is-bad w ↦ counted_yes is_bad notes old.note-index old.count _ here c.loop-note-test.true read old.invariant w.if-is-bad.ensures w.count-is
-      | else-is-bad w ↦ counted_no is_bad notes old.note-index old.count _ here c.loop-note-test.true read old.invariant w.if-is-bad.ensures w.count-is
+    elim c.if-is_bad.branch [
+      | then-is_bad w ↦ counted_yes is_bad notes old.note-index old.count _ here c.loop-note-test.true read old.invariant w.if-is_bad.ensures w.count-is
+      | else-is_bad w ↦ counted_no is_bad notes old.note-index old.count _ here c.loop-note-test.true read old.invariant w.if-is_bad.ensures w.count-is
     ]
 
 pub returns : goal.returns

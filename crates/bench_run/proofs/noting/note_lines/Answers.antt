@@ -4,8 +4,8 @@ use Rattle.bench_run.proofs.noting.note_lines.Goals as goal
 
 pub loop-line-preserved : goal.loop-line-preserved
 loop-line-preserved c =
-    noted_more c.args.lines.now c.loop-line.line-index (vec_items c.loop-line.notes) _ c.line-item.result c.note-line-note.result _ _ c.loop-line.plan _
-    c.loop-line-test.true c.line-item.is c.as-str.ensures.value c.loop-line.invariant c.note-line-note.ensures c.in-ok-push.ensures.items
+    noted_more c.args.lines.now c.loop-line.line-index (vec_items c.loop-line.notes) _ c.line-item.result c.note_line-note.result _ _ c.loop-line.plan _
+    c.loop-line-test.true c.line-item.is c.as_str.ensures.value c.loop-line.invariant c.note_line-note.ensures c.in_ok-push.ensures.items
 
 pub returns : goal.returns
 returns c = noted_all c.args.lines.now c.loop-line.line-index (vec_items c.loop-line.notes) _ _ c.loop-line-test.false c.loop-line.invariant

@@ -10,5 +10,5 @@ returns-in-Unread c =
 pub returns-in-Untaken : goal.returns-in-Untaken
 returns-in-Untaken c =
     IfOk-weaker c.format-in-Untaken.result _ _
-    (λ s e. e ∙ ap (λ t. codes "  ->  bad line: " ++ t) c.plan-fault-text-text.ensures ∙ ap (λ n. answer_text n c.args.calls.now c.args.receipts.now) (sym c.in-Untaken.is))
+    (λ s e. e ∙ ap (λ t. codes "  ->  bad line: " ++ t) c.plan_fault_text-text.ensures ∙ ap (λ n. answer_text n c.args.calls.now c.args.receipts.now) (sym c.in-Untaken.is))
     c.format-in-Untaken.ensures.ok

@@ -10,5 +10,5 @@ pub returns : goal.returns
 returns c =
     let step = c.index-calls-index in
     IfOk-weaker c.format.result _ _
-    (λ s e. e ∙ ap (λ t. c.args.words.now ++ t) c.in-ok-text.ensures ∙ sym (call_at c.args.words.now c.args.calls.now c.args.index step.result c.if-index-calls.false step.is))
+    (λ s e. e ∙ ap (λ t. c.args.words.now ++ t) c.in_ok-text.ensures ∙ sym (call_at c.args.words.now c.args.calls.now c.args.index step.result c.if-index-calls.false step.is))
     c.format.ensures.ok

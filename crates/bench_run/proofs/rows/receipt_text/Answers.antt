@@ -10,5 +10,5 @@ pub returns : goal.returns
 returns c =
     let step = c.index-receipts-index in
     IfOk-weaker c.format.result _ _
-    (λ s e. e ∙ ap (λ t. codes "  ->  " ++ t) c.in-ok-text.ensures ∙ sym (receipt_at c.args.receipts.now c.args.index step.result c.if-index-receipts.false step.is))
+    (λ s e. e ∙ ap (λ t. codes "  ->  " ++ t) c.in_ok-text.ensures ∙ sym (receipt_at c.args.receipts.now c.args.index step.result c.if-index-receipts.false step.is))
     c.format.ensures.ok

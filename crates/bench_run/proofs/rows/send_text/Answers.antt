@@ -5,5 +5,5 @@ use Rattle.bench_run.proofs.rows.send_text.Goals as goal
 
 pub returns : goal.returns
 returns c =
-    IfOk-weaker c.call-text.result _ _
-    (λ s e. e ∙ ap (λ words. call_text words c.args.calls.now c.args.index) (c.as-str.ensures.value ∙ c.in-ok-words.ensures.ok)) c.call-text.ensures
+    IfOk-weaker c.call_text.result _ _
+    (λ s e. e ∙ ap (λ words. call_text words c.args.calls.now c.args.index) (c.as_str.ensures.value ∙ c.in_ok-words.ensures.ok)) c.call_text.ensures

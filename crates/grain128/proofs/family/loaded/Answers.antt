@@ -7,6 +7,6 @@ pub returns : goal.returns
 unfolding held
 returns c =
     λ i. record {
-      linear = iv-filled c.args.iv.now c.args.ones _ (omega arith) (omega arith) c.number-of.ensures i;
-      nonlinear = key-filled c.args.key.now _ (omega arith) c.number-of-2.ensures i;
+      linear = iv-filled c.args.iv.now c.args.ones _ (omega arith) (omega arith) c.number_of.ensures i;
+      nonlinear = key-filled c.args.key.now _ (omega arith) c.number_of-2.ensures i;
     }

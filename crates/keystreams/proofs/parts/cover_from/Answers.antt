@@ -8,7 +8,7 @@ returns-in-Ok g c =
     let key = c.args.key.now in
     let iv = c.args.iv.now in
     let octets = c.args.octets.now in
-    let before = g.E.Engine.state c.place-at.new.engine in
+    let before = g.E.Engine.state c.place_at.new.engine in
     let placed = c.in-Ok.ensures in (
       placed.0,
       covered_at cipher key iv octets c.cover.new.octets before c.args.first placed.1 c.cover.ensures.covered,

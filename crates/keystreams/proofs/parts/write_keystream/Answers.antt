@@ -6,7 +6,7 @@ returns-in-Ok g c =
     let cipher = g.E.Engine.cipher in
     let key = c.args.key.now in
     let iv = c.args.iv.now in
-    let before = g.E.Engine.state c.place-at.new.engine in
+    let before = g.E.Engine.state c.place_at.new.engine in
     let placed = c.in-Ok.ensures in
     let zeros = c.fill.ensures.after (λ y e. e) in (
       placed.0,

@@ -8,7 +8,7 @@ pub returns : goal.returns
 returns c =
     IfOk-weaker c.format.result _ _
     (λ s e. e ∙ covered_pieces c.args.first c.args.message.now _ _ _
-    (c.in-ok-plain.ensures ∙ ap (dump_text c.args.first) c.as-slice.ensures.value)
-    (c.in-ok-covered.ensures ∙ ap (dump_text c.args.first) c.as-slice-2.ensures.value)
-    (c.in-ok-uncovered.ensures ∙ ap (dump_text c.args.first) c.as-slice-3.ensures.value))
+    (c.in_ok-plain.ensures ∙ ap (dump_text c.args.first) c.as_slice.ensures.value)
+    (c.in_ok-covered.ensures ∙ ap (dump_text c.args.first) c.as_slice-2.ensures.value)
+    (c.in_ok-uncovered.ensures ∙ ap (dump_text c.args.first) c.as_slice-3.ensures.value))
     c.format.ensures.ok

@@ -3,7 +3,7 @@ use Rattle.keystreams.proofs.text.fault_line.Goals as goal
 
 pub returns-in-Refused : goal.returns-in-Refused
 unfolding fault_line
-returns-in-Refused c = rw c.in-Refused.is c.refusal-text.ensures
+returns-in-Refused c = rw c.in-Refused.is c.refusal_text.ensures
 
 pub returns-in-MessageRefused : goal.returns-in-MessageRefused
 unfolding fault_line
@@ -11,4 +11,4 @@ returns-in-MessageRefused c = rw c.in-MessageRefused.is c.refusal-text_in-Messag
 
 pub returns-in-NoMemory : goal.returns-in-NoMemory
 unfolding fault_line
-returns-in-NoMemory c = rw c.in-NoMemory.is c.from-str.ensures.ok
+returns-in-NoMemory c = rw c.in-NoMemory.is c.from_str.ensures.ok

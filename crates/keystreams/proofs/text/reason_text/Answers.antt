@@ -10,19 +10,19 @@ returns-in-KeyLength c = rw c.in-KeyLength.is c.format.ensures.ok
 
 pub returns-in-LabelLength : goal.returns-in-LabelLength
 unfolding reason_text
-returns-in-LabelLength c = rw (c.in-LabelLength.is, ← c.nonce-octets-octets.ensures) c.format-in-LabelLength.ensures.ok
+returns-in-LabelLength c = rw (c.in-LabelLength.is, ← c.nonce_octets-octets.ensures) c.format-in-LabelLength.ensures.ok
 
 pub returns-in-ForbiddenBit : goal.returns-in-ForbiddenBit
 unfolding reason_text
-returns-in-ForbiddenBit c = rw c.in-ForbiddenBit.is c.from-str.ensures.ok
+returns-in-ForbiddenBit c = rw c.in-ForbiddenBit.is c.from_str.ensures.ok
 
 pub returns-in-AboveAllowance : goal.returns-in-AboveAllowance
 unfolding reason_text
 returns-in-AboveAllowance c = rw c.in-AboveAllowance.is c.format-in-AboveAllowance.ensures.ok
 
-pub returns-in-default : goal.returns-in-default
-returns-in-default c =
-    let other = c.in-default in
-    IfOk-weaker c.from-str-in-default.result _ _
+pub returns-in_default : goal.returns-in_default
+returns-in_default c =
+    let other = c.in_default in
+    IfOk-weaker c.from_str-in_default.result _ _
     (λ s e. e ∙ other_reason _ _ _ other.not-KeyLength other.not-LabelLength other.not-ForbiddenBit other.not-AboveAllowance)
-    c.from-str-in-default.ensures.ok
+    c.from_str-in_default.ensures.ok

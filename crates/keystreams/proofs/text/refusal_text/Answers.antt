@@ -7,5 +7,5 @@ pub returns : goal.returns
 returns c =
     IfOk-weaker c.format.result _ _
     (λ s e. e ∙ refusal_pieces c.args.request.now c.args.size.now c.args.refusal _ _ _ _
-    c.field-refused-field.ensures c.number-number.ensures c.figures-named.ensures c.in-ok-reason.ensures)
+    c.field_refused-field.ensures c.number-number.ensures c.figures_named.ensures c.in_ok-reason.ensures)
     c.format.ensures.ok

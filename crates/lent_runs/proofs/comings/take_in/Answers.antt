@@ -11,9 +11,9 @@ returns g c =
     let state = g.F.Engine.state in
     let step = c.args.step.now in
     let after = c.handled-answer.new.out in
-    let whole : length after ≡ step.out.len = omega (arith, c.handled-answer.auto.out, c.as-mut-slice.ensures.len) in
+    let whole : length after ≡ step.out.len = omega (arith, c.handled-answer.auto.out, c.as_mut_slice.ensures.len) in
     record {
       call = refl;
       handled = lent (λ b a. Handled cipher c.args.sent.now (receiver_as cipher (holds cipher state c.args.receiver.now)) step.call b a c.handled-answer.result
-          (receiver_as cipher (holds cipher state c.handled-answer.new.receiver))) _ _ _ _ c.as-mut-slice.ensures.value (with_items_is step.out after whole) c.handled-answer.ensures;
+          (receiver_as cipher (holds cipher state c.handled-answer.new.receiver))) _ _ _ _ c.as_mut_slice.ensures.value (with_items_is step.out after whole) c.handled-answer.ensures;
     }

@@ -12,9 +12,9 @@ returns g c =
     let mark = g.S.MarkStore.mark in
     let left = g.S.MarkStore.left in
     let other = g.F.Engine.cipher in
-    let calls = c.run-sender.new.steps in
-    let sent = subst (λ (s : Sender cipher). SenderRan cipher writes s c.args.calls.now calls) (ap (λ s. at_rest (mark s, left s)) c.new.ensures.store) c.run-sender.ensures in
-    let received = subst (λ (s : Receiver other). ReceiverRan other calls s c.args.receipts.now c.run-receiver.new.steps) (ap (receiver_as other) c.new-2.ensures.fresh) c.run-receiver.ensures in
+    let calls = c.run_sender.new.steps in
+    let sent = subst (λ (s : Sender cipher). SenderRan cipher writes s c.args.calls.now calls) (ap (λ s. at_rest (mark s, left s)) c.new.ensures.store) c.run_sender.ensures in
+    let received = subst (λ (s : Receiver other). ReceiverRan other calls s c.args.receipts.now c.run_receiver.new.steps) (ap (receiver_as other) c.new-2.ensures.fresh) c.run_receiver.ensures in
     record {
       sender = sent;
       receiver = received;

@@ -5,8 +5,8 @@ use Rattle.lent_runs.proofs.run.run_receiver.Goals as goal
 
 pub loop-step-preserved : goal.loop-step-preserved
 loop-step-preserved g c =
-    half_more (Taken g.F.Engine.cipher c.args.sent.now) c.args.steps.now c.loop-step.steps c.loop-step.step-index c.step-item.result c.take-in.new.step _ _ _
-    c.loop-step-test.true c.loop-step.invariant c.take-in.ensures
+    half_more (Taken g.F.Engine.cipher c.args.sent.now) c.args.steps.now c.loop-step.steps c.loop-step.step-index c.step-item.result c.take_in.new.step _ _ _
+    c.loop-step-test.true c.loop-step.invariant c.take_in.ensures
 
 pub returns : goal.returns
 returns g c =

@@ -7,7 +7,7 @@ pub returns-in-Ok : goal.returns-in-Ok
 returns-in-Ok g c =
     record {
       step = λ out. torn_step g.S.MarkStore.mark g.S.MarkStore.left g.E.Engine.cipher g.S.MarkStore.writes c.args.key.now c.args.label.now c.args.allowance
-          c.args.writes-done c.args.junk c.args.sender.store c.in-Ok.resting.store c.in-Ok.ensures;
+          c.args.writes_done c.args.junk c.args.sender.store c.in-Ok.resting.store c.in-Ok.ensures;
       unwritten = refl;
     }
 
@@ -16,6 +16,6 @@ returns-in-Err g c =
     let e = c.in-Err.ensures in
     record {
       step = λ out. torn_no_step g.S.MarkStore.mark g.S.MarkStore.left g.E.Engine.cipher g.S.MarkStore.writes c.args.key.now c.args.label.now c.args.allowance
-          c.args.writes-done c.args.junk _ c.args.sender.store c.in-Err.resting.store e.0 (ap (λ r. r.store) e.1);
+          c.args.writes_done c.args.junk _ c.args.sender.store c.in-Err.resting.store e.0 (ap (λ r. r.store) e.1);
       unwritten = refl;
     }

@@ -10,10 +10,10 @@ returns g c =
     let as-sender = stage_as cipher g.E.Engine.state g.S.MarkStore.mark g.S.MarkStore.left in
     let step = c.args.step.now in
     let after = c.acted-stage.new.out in
-    let whole : length after ≡ step.out.len = omega (arith, c.acted-stage.auto.out, c.as-mut-slice.ensures.len) in
+    let whole : length after ≡ step.out.len = omega (arith, c.acted-stage.auto.out, c.as_mut_slice.ensures.len) in
     record {
       call = refl;
       acted = lent (λ b a. Acted cipher g.S.MarkStore.writes (as-sender c.args.stage) step.call b a c.acted-stage.result.1 (as-sender c.acted-stage.result.0)) _ _ _ _
-          c.as-mut-slice.ensures.value (with_items_is step.out after whole) c.acted-stage.ensures;
-      marks = c.store-numbers-mark.ensures;
+          c.as_mut_slice.ensures.value (with_items_is step.out after whole) c.acted-stage.ensures;
+      marks = c.store_numbers-mark.ensures;
     }

@@ -12,6 +12,6 @@ returns-in-Close g c = λ out. for_call _ _ _ _ _ _ _ _ _ c.in-Close.is (record 
 pub returns-in-PowerCut : goal.returns-in-PowerCut
 returns-in-PowerCut g c =
     λ out. for_call _ _ _ _ _ _ _ _ _ c.in-PowerCut.is (record {
-      step = same_store g.S.MarkStore.mark g.S.MarkStore.left g.E.Engine.cipher g.S.MarkStore.writes _ _ c.args.sender.store _ c.power-cut.ensures cut_at_rest;
+      step = same_store g.S.MarkStore.mark g.S.MarkStore.left g.E.Engine.cipher g.S.MarkStore.writes _ _ c.args.sender.store _ c.power_cut.ensures cut_at_rest;
       beyond = unwritten _ _ _ refl;
     })

@@ -13,7 +13,7 @@ returns-in-Close g c =
 pub returns-in-PowerCut : goal.returns-in-PowerCut
 returns-in-PowerCut g c =
     for_call _ _ _ _ _ _ _ _ _ c.in-PowerCut.is (record {
-      step = same_store g.S.MarkStore.mark g.S.MarkStore.left g.E.Engine.cipher g.S.MarkStore.writes _ _ c.args.sender.store _ c.power-cut.ensures cut;
+      step = same_store g.S.MarkStore.mark g.S.MarkStore.left g.E.Engine.cipher g.S.MarkStore.writes _ _ c.args.sender.store _ c.power_cut.ensures cut;
       beyond = unwritten _ _ _ refl;
     })
 

@@ -23,7 +23,7 @@ pub returns : goal.returns
 returns c =
     let f = c.args.frame.now in
     record {
-      session = c.from-le-bytes.ensures ∙ four f;
-      place = c.from-le-bytes-2.ensures ∙ simp get_or-drop at (four (drop 4 f));
-      size = c.from-le-bytes-3.ensures ∙ simp get_or-drop at (two (drop 8 f));
+      session = c.from_le_bytes.ensures ∙ four f;
+      place = c.from_le_bytes-2.ensures ∙ simp get_or-drop at (four (drop 4 f));
+      size = c.from_le_bytes-3.ensures ∙ simp get_or-drop at (two (drop 8 f));
     }

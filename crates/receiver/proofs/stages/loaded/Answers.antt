@@ -31,6 +31,6 @@ returns g c =
       place = refl;
       stands = λ paired. (
         paired,
-        at_start cipher _ _ _ _ _ _ _ key_is label_is c.load-session.ensures.starts paired,
+        at_start cipher _ _ _ _ _ _ _ key_is label_is c.load_session.ensures.starts paired,
       );
     }

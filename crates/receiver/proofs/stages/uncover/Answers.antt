@@ -17,8 +17,8 @@ covered_piece c s payload copied covered out n same size done =
 pub returns : goal.returns
 returns g c =
     let cipher = g.E.Engine.cipher in
-    let same = c.copy-from-slice.ensures.after in
-    let part = copied_part c.args.payload.now c.copy-from-slice.new.self c.args.out.now (length c.args.payload.now - 0) same (omega arith) in
+    let same = c.copy_from_slice.ensures.after in
+    let part = copied_part c.args.payload.now c.copy_from_slice.new.self c.args.out.now (length c.args.payload.now - 0) same (omega arith) in
     record {
       plain = covered_piece cipher _ _ _ _ _ _ same (omega arith) c.cover.ensures.covered;
       moves = c.cover.ensures.moves ∙ ap (λ xs. later cipher (8 * length xs) (g.E.Engine.state c.args.engine.now)) part;

@@ -24,5 +24,5 @@ returns g c =
     record {
       count = count-is;
       drawn = drawn_by shape m low high s b _ _ shape.linear_within shape.nonlinear_within _ _ _ _ _ _ w v c.output.ensures c.lowest-z.ensures count-is shape.output_within;
-      moves = stepped_by shape m low high s b _ _ shape.linear_within shape.nonlinear_within _ _ _ _ _ _ _ _ w v c.linear.ensures c.nonlinear.ensures c.size-size.ensures c.moved-by-linear.ensures c.moved-by-nonlinear.ensures count-is;
+      moves = stepped_by shape m low high s b _ _ shape.linear_within shape.nonlinear_within _ _ _ _ _ _ _ _ w v c.linear.ensures c.nonlinear.ensures c.size-size.ensures c.moved_by-linear.ensures c.moved_by-nonlinear.ensures count-is;
     }

@@ -14,7 +14,7 @@ loop-left-preserved g c =
     let rest : ℕ = c.loop-left.left - m in
     let whole : m + rest ≡ c.loop-left.left = omega arith in
     let from : Registers = held shape.size c.loop-left.reached.linear c.loop-left.reached.nonlinear in
-    ap (times rest next) c.initialised-by-reached.ensures ∙ sym (times-add m rest next from) ∙ ap (λ n. times n next from) whole ∙ c.loop-left.invariant
+    ap (times rest next) c.initialised_by-reached.ensures ∙ sym (times-add m rest next from) ∙ ap (λ n. times n next from) whole ∙ c.loop-left.invariant
 
 pub returns : goal.returns
 returns g c = none_moved c.loop-left.left _ _ (omega arith) ∙ c.loop-left.invariant

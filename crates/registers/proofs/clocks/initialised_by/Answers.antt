@@ -16,4 +16,4 @@ returns g c =
     (within shape.nonlinear shape.output shape.nonlinear_within shape.output_within)
     _ _ _ _ _ _ _ _ c.window-s.ensures c.window-b.ensures
     (ap₂ bit_xor c.linear.ensures c.output-z.ensures) (ap₂ bit_xor c.nonlinear.ensures c.output-z.ensures)
-    c.size-size.ensures c.moved-by-linear.ensures c.moved-by-nonlinear.ensures refl
+    c.size-size.ensures c.moved_by-linear.ensures c.moved_by-nonlinear.ensures refl

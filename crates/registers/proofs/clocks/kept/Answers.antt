@@ -2,8 +2,8 @@ use Rattle.std.proofs.Common.{arith}
 use Rattle.registers.proofs.Masks.{masked, mask_whole}
 use Rattle.registers.proofs.clocks.kept.Goals as goal
 
-pub overflow-sub-result : goal.overflow-sub-result
-overflow-sub-result c = mask_whole c.args.size 128 c.if-size-lt128.true
+pub overflow_sub-result : goal.overflow_sub-result
+overflow_sub-result c = mask_whole c.args.size 128 c.if-size-lt128.true
 
 pub returns-then-size-lt128 : goal.returns-then-size-lt128
 returns-then-size-lt128 c = masked c.args.r c.args.size 128 c.if-size-lt128.true

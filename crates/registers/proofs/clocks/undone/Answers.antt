@@ -8,7 +8,7 @@ returns g c =
     let shape : Shape = g.T.Taps.shape c.args.taps in
     let s : ℕ = c.args.pair.linear in
     let b : ℕ = c.args.pair.nonlinear in
-    let found : clock shape.linear shape.nonlinear (held shape.size c.moved-up-linear.result c.moved-up-nonlinear.result) ≡ held shape.size s b =
-    undone_steps shape s b _ _ _ _ _ _ _ _ _ _ _ _ _ c.size-top.ensures refl c.moved-up.ensures c.window-s.ensures c.moved-up-2.ensures c.window-b.ensures
-    c.linear.ensures c.bit-at.ensures c.moved-up-linear.ensures c.window.ensures c.nonlinear.ensures c.bit-at-2.ensures c.moved-up-nonlinear.ensures in
+    let found : clock shape.linear shape.nonlinear (held shape.size c.moved_up-linear.result c.moved_up-nonlinear.result) ≡ held shape.size s b =
+    undone_steps shape s b _ _ _ _ _ _ _ _ _ _ _ _ _ c.size-top.ensures refl c.moved_up.ensures c.window-s.ensures c.moved_up-2.ensures c.window-b.ensures
+    c.linear.ensures c.bit_at.ensures c.moved_up-linear.ensures c.window.ensures c.nonlinear.ensures c.bit_at-2.ensures c.moved_up-nonlinear.ensures in
     record { found = found; alone = undone_alone shape s b _ _ found }

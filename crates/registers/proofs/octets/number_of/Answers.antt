@@ -13,7 +13,7 @@ loop-octet-preserved c =
     let n : ℕ = c.min.result - 0 in
     let i : ℕ = c.loop-octet.octet-index in
     let inside : i < n = omega (arith, length-take n octets) in
-    let fits : get_or (take n octets) i 0 < 256 = omega (arith, get_or-take n octets i 0 inside, c.type-inv.octets i) in (
+    let fits : get_or (take n octets) i 0 < 256 = omega (arith, get_or-take n octets i 0 inside, c.type_inv.octets i) in (
       omega arith,
       omega arith,
       one-octet_more (take n octets) i c.loop-octet.number c.loop-octet.shift c.loop-octet-test.true (omega (arith, length-take n octets)) fits

@@ -17,11 +17,11 @@ returns-in-Ok g c =
     let out = c.args.out in
     let after = c.receive.new.out in
     let n = c.in-Ok.received.length in
-    let whole : length after ≡ out.len = omega (arith, c.receive.auto.out, c.as-mut-slice.ensures.len) in
+    let whole : length after ≡ out.len = omega (arith, c.receive.auto.out, c.as_mut_slice.ensures.len) in
     let items : vec_items c.truncate.new.self ≡ take n after = c.truncate.ensures.items ∙ ap (take n) (with_items_is out after whole) in
     let before = holds cipher state c.args.receiver.now in
     subst (λ (b : List ℕ). Receives cipher (receiver_as cipher before) (came (receiving c.args.octets.now (length b)) (plain_at (vec_items c.truncate.new.self) c.in-Ok.received.distance))
-    (receiver_as cipher (holds cipher state c.receive.new.self))) c.as-mut-slice.ensures.value
+    (receiver_as cipher (holds cipher state c.receive.new.self))) c.as_mut_slice.ensures.value
     (receive_step cipher before.pairing before.session before.place before.state _ _ _ _ _ c.in-Ok.received o items)
 
 pub returns-in-Err : goal.returns-in-Err
@@ -31,7 +31,7 @@ returns-in-Err g c =
     let o = c.in-Err.ensures in
     let before = holds cipher state c.args.receiver.now in
     subst (λ (b : List ℕ). Receives cipher (receiver_as cipher before) (came (receiving c.args.octets.now (length b)) (turned_down (number c.in-Err.refusal)))
-    (receiver_as cipher (holds cipher state c.receive.new.self))) c.as-mut-slice.ensures.value
+    (receiver_as cipher (holds cipher state c.receive.new.self))) c.as_mut_slice.ensures.value
     (subst (λ (v : Receiver g.row.F.Denot). Receives cipher (receiver_as cipher before)
-    (came (receiving c.args.octets.now (length c.as-mut-slice.result.now)) (turned_down (number c.in-Err.refusal))) (receiver_as cipher (holds cipher state v)))
+    (came (receiving c.args.octets.now (length c.as_mut_slice.result.now)) (turned_down (number c.in-Err.refusal))) (receiver_as cipher (holds cipher state v)))
     (sym o.1) (receive_refused o.0))

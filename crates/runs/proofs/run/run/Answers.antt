@@ -11,9 +11,9 @@ returns g c =
     let mark = g.S.MarkStore.mark in
     let left = g.S.MarkStore.left in
     let other = g.F.Engine.cipher in
-    let sent = sender_ran cipher g.S.MarkStore.writes _ _ _ _ _ c.run-receiver-received.result.complete
-    (ap (λ s. at_rest (mark s, left s)) c.new.ensures.store) c.run-sender-sent.ensures in
-    let received = receiver_ran other _ _ _ _ c.run-sender-sent.result.complete _ (ap (receiver_as other) c.new-2.ensures.fresh) c.run-receiver-received.ensures in
+    let sent = sender_ran cipher g.S.MarkStore.writes _ _ _ _ _ c.run_receiver-received.result.complete
+    (ap (λ s. at_rest (mark s, left s)) c.new.ensures.store) c.run_sender-sent.ensures in
+    let received = receiver_ran other _ _ _ _ c.run_sender-sent.result.complete _ (ap (receiver_as other) c.new-2.ensures.fresh) c.run_receiver-received.ensures in
     record {
       sender = sent;
       receiver = received;

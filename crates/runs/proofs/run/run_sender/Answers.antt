@@ -4,8 +4,8 @@ use Rattle.runs.specs.Readings.{Turns, resting_as, stage_as}
 use Rattle.runs.proofs.Rows.{turns_all, turns_next, push_failed, push_done}
 use Rattle.runs.proofs.run.run_sender.Goals as goal
 
-pub returns-in-default : goal.returns-in-default
-returns-in-default g c =
+pub returns-in_default : goal.returns-in_default
+returns-in_default g c =
     let as-sender = stage_as g.E.Engine.cipher g.E.Engine.state g.S.MarkStore.mark g.S.MarkStore.left in
     record {
       reached = as-sender c.loop-call.stage;
@@ -13,11 +13,11 @@ returns-in-default g c =
       whole = λ e. absurd (false≢true e);
     }
 
-pub returns-then-is-err : goal.returns-then-is-err
-returns-then-is-err g c =
+pub returns-then-is_err : goal.returns-then-is_err
+returns-then-is_err g c =
     let as-sender = stage_as g.E.Engine.cipher g.E.Engine.state g.S.MarkStore.mark g.S.MarkStore.left in
     let kept : vec_items c.push.new.self ≡ vec_items c.loop-call.entries =
-    push_failed c.push.result c.is-err.result _ _ _ c.is-err.ensures.value c.if-is-err.true c.push.ensures.items in
+    push_failed c.push.result c.is_err.result _ _ _ c.is_err.ensures.value c.if-is_err.true c.push.ensures.items in
     record {
       reached = as-sender c.loop-call.stage;
       turns = subst (λ es. Turns g.E.Engine.cipher g.S.MarkStore.writes (resting_as g.E.Engine.cipher g.S.MarkStore.mark g.S.MarkStore.left c.args.sender) c.args.calls.now es (as-sender c.loop-call.stage)) (sym kept)
@@ -28,7 +28,7 @@ returns-then-is-err g c =
 pub loop-call-preserved : goal.loop-call-preserved
 loop-call-preserved g c =
     let inv = c.loop-call.invariant in
-    let more = push_done c.push.result c.is-err.result _ _ _ c.is-err.ensures.value c.if-is-err.false c.push.ensures.items in
+    let more = push_done c.push.result c.is_err.result _ _ _ c.is_err.ensures.value c.if-is_err.false c.push.ensures.items in
     turns_next g.E.Engine.cipher g.S.MarkStore.writes c.args.calls.now c.loop-call.call-index (vec_items c.loop-call.entries) _ c.call-item.result c.entry-made.result
     c.in-Some.answer _ _ _ _ c.loop-call-test.true c.call-item.is inv.1 inv.2 c.turn-turned.ensures c.in-Some.is (c.entry-made.ensures.answer ∙ c.in-Some.answer-is) c.entry-made.ensures.marks more
 

@@ -11,4 +11,4 @@ returns-in-Close g c = for_call _ _ _ _ _ _ _ c.in-Close.is close_at_rest
 pub returns-in-PowerCut : goal.returns-in-PowerCut
 returns-in-PowerCut g c =
     for_call _ _ _ _ _ _ _ c.in-PowerCut.is
-    (same_store g.S.MarkStore.mark g.S.MarkStore.left g.E.Engine.cipher g.S.MarkStore.writes _ _ c.args.sender.store _ c.power-cut.ensures cut_at_rest)
+    (same_store g.S.MarkStore.mark g.S.MarkStore.left g.E.Engine.cipher g.S.MarkStore.writes _ _ c.args.sender.store _ c.power_cut.ensures cut_at_rest)

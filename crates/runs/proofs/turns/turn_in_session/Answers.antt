@@ -10,7 +10,7 @@ returns-in-Close g c =
 pub returns-in-PowerCut : goal.returns-in-PowerCut
 returns-in-PowerCut g c =
     for_call _ _ _ _ _ _ _ c.in-PowerCut.is
-    (same_store g.S.MarkStore.mark g.S.MarkStore.left g.E.Engine.cipher g.S.MarkStore.writes _ _ c.args.sender.store _ c.power-cut.ensures cut)
+    (same_store g.S.MarkStore.mark g.S.MarkStore.left g.E.Engine.cipher g.S.MarkStore.writes _ _ c.args.sender.store _ c.power_cut.ensures cut)
 
 pub returns-in-Open : goal.returns-in-Open
 returns-in-Open g c = for_call _ _ _ _ _ _ _ c.in-Open.is open_in_session

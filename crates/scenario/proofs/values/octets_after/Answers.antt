@@ -5,8 +5,8 @@ use Rattle.scenario.proofs.Counts.{refused_none_one, reads_octets}
 use Rattle.scenario.proofs.Rows.{row_none, row_size}
 use Rattle.scenario.proofs.values.octets_after.Goals as goal
 
-pub returns-then-is-empty : goal.returns-then-is-empty
-returns-then-is-empty c =
+pub returns-then-is_empty : goal.returns-then-is_empty
+returns-then-is_empty c =
     let none : length c.args.rest.now ≡ 0 = search rules in
     inl (ap (λ r. command_word c.args.command ∷ r) (row_none string_bytes c.args.rest.now none), c.new.ensures.items)
 

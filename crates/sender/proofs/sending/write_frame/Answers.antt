@@ -50,9 +50,9 @@ returns g c =
     let cipher = g.E.Engine.cipher in
     let plain = c.args.plain.now in
     let out = c.args.out.now in
-    let copied = c.copy-from-slice.ensures.after in
+    let copied = c.copy_from_slice.ensures.after in
     let part = copied_part plain _ out _ refl copied c.requires.1 in
     record {
-      written = framed cipher _ _ _ plain _ _ out _ _ refl copied c.requires.1 c.cover.ensures.covered c.write-header.ensures.written;
+      written = framed cipher _ _ _ plain _ _ out _ _ refl copied c.requires.1 c.cover.ensures.covered c.write_header.ensures.written;
       moves = c.cover.ensures.moves ∙ ap (λ ys. later cipher (8 * length ys) (g.E.Engine.state c.args.engine.now)) part;
     }

@@ -9,8 +9,8 @@ unfolding held
 returns c =
     let iv = c.args.iv.now in
     let key = c.args.key.now in
-    let n : c.number-of-number.result ≡ packed (octet_bits iv) = whole-number iv _ (omega arith) c.number-of-number.ensures in
-    let k : c.number-of.result ≡ packed (octet_bits key) = whole-number key _ (omega arith) c.number-of.ensures in
+    let n : c.number_of-number.result ≡ packed (octet_bits iv) = whole-number iv _ (omega arith) c.number_of-number.ensures in
+    let k : c.number_of.result ≡ packed (octet_bits key) = whole-number key _ (omega arith) c.number_of.ensures in
     λ i. record {
       registers = record { linear = linear-bits iv _ (omega arith) n i; nonlinear = nonlinear-bits iv _ (omega arith) n i };
       key = key-bits key _ (omega arith) k i;

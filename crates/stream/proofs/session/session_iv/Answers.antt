@@ -36,5 +36,5 @@ returns c =
       refl,
       omega arith,
       three_parts _ _ _ _ _ _ _ _ _ _ c.min-head.ensures (omega arith) (omega arith) (omega arith)
-          c.copy_from_slice.ensures.after octets c.copy-from-slice-3.ensures.after,
+          c.copy_from_slice.ensures.after octets c.copy_from_slice-3.ensures.after,
     )

@@ -9,29 +9,29 @@ pub loop-octet-init : goal.loop-octet-init
 unfolding sum_of
 loop-octet-init c = refl
 
-pub overflow-add-left : goal.overflow-add-left
-overflow-add-left c =
-    let fits : get_or c.used-octets-octet-items.result.now c.loop-octet.octet-index 0 < 256 = omega arith in
+pub overflow_add-left : goal.overflow_add-left
+overflow_add-left c =
+    let fits : get_or c.used_octets-octet-items.result.now c.loop-octet.octet-index 0 < 256 = omega arith in
     omega (
       arith,
-      sum_of_small (λ x. ones (bits 8 x)) ones-le c.used-octets-octet-items.result.now c.args.octets.now
-          c.used-octets-octet-items.ensures c.loop-octet.octet-index,
-      ones_of (get_or c.used-octets-octet-items.result.now c.loop-octet.octet-index 0) fits,
-      ones-le (get_or c.used-octets-octet-items.result.now c.loop-octet.octet-index 0),
+      sum_of_small (λ x. ones (bits 8 x)) ones-le c.used_octets-octet-items.result.now c.args.octets.now
+          c.used_octets-octet-items.ensures c.loop-octet.octet-index,
+      ones_of (get_or c.used_octets-octet-items.result.now c.loop-octet.octet-index 0) fits,
+      ones-le (get_or c.used_octets-octet-items.result.now c.loop-octet.octet-index 0),
     )
 
 pub loop-octet-preserved : goal.loop-octet-preserved
 loop-octet-preserved c =
-    let fits : get_or c.used-octets-octet-items.result.now c.loop-octet.octet-index 0 < 256 = omega arith in
+    let fits : get_or c.used_octets-octet-items.result.now c.loop-octet.octet-index 0 < 256 = omega arith in
     omega (
       arith,
-      sum_of_more (λ x. ones (bits 8 x)) c.used-octets-octet-items.result.now c.loop-octet.octet-index c.loop-octet-test.true,
-      ones_of (get_or c.used-octets-octet-items.result.now c.loop-octet.octet-index 0) fits,
+      sum_of_more (λ x. ones (bits 8 x)) c.used_octets-octet-items.result.now c.loop-octet.octet-index c.loop-octet-test.true,
+      ones_of (get_or c.used_octets-octet-items.result.now c.loop-octet.octet-index 0) fits,
     )
 
 pub returns : goal.returns
 returns c =
     c.loop-octet.invariant
     ∙ ap (sum_of (λ x. ones (bits 8 x)))
-    (take_all c.loop-octet.octet-index c.used-octets-octet-items.result.now c.loop-octet-test.false
-    ∙ c.used-octets-octet-items.ensures)
+    (take_all c.loop-octet.octet-index c.used_octets-octet-items.result.now c.loop-octet-test.false
+    ∙ c.used_octets-octet-items.ensures)

@@ -6,36 +6,36 @@ use Rattle.texts.proofs.Exits.{exit}
 use Rattle.texts.proofs.Pairs.{hex_more, hex_two, unhex-two}
 use Rattle.texts.proofs.hex.read_digits.Goals as goal
 
-pub returns-in-err-high : goal.returns-in-err-high
-returns-in-err-high c =
-    exit _ _ _ _ c.from-residual.ensures.1 (c.in-err-high.ensures c.loop-i.invariant.0)
+pub returns-in_err-high : goal.returns-in_err-high
+returns-in_err-high c =
+    exit _ _ _ _ c.from-residual.ensures.1 (c.in_err-high.ensures c.loop-i.invariant.0)
 
-pub returns-in-err-low : goal.returns-in-err-low
-returns-in-err-low c =
-    let high = c.in-ok-high.ensures in
+pub returns-in_err-low : goal.returns-in_err-low
+returns-in_err-low c =
+    let high = c.in_ok-high.ensures in
     let good = hex_more (2 * c.loop-i.i) c.args.digits.now c.loop-i.invariant.0 (omega arith) in
-    exit _ _ _ _ c.from-residual-in-err-low.ensures.1 (c.in-err-low.ensures good)
+    exit _ _ _ _ c.from-residual-in_err-low.ensures.1 (c.in_err-low.ensures good)
 
 pub loop-i-preserved : goal.loop-i-preserved
 loop-i-preserved c =
-    let high = c.in-ok-high.ensures in
-    let low = c.in-ok-low.ensures in
+    let high = c.in_ok-high.ensures in
+    let low = c.in_ok-low.ensures in
     let bs = c.args.digits.now in
     let i = c.loop-i.i in
     let inside : 2 * i + 1 < length bs = omega arith in
     let octet = 16 * digit_value (get_or bs (2 * i) 0) + digit_value (get_or bs (2 * i + 1) 0) in
-    let items : vec_items c.push.new.self ≡ vec_items c.loop-i.octets ++ octet ∷ [] = rw (← high.0, ← low.0) c.in-ok-push.ensures.items in (
+    let items : vec_items c.push.new.self ≡ vec_items c.loop-i.octets ++ octet ∷ [] = rw (← high.0, ← low.0) c.in_ok-push.ensures.items in (
       hex_two i bs c.loop-i.invariant.0 (omega arith) (omega arith),
       rw (items, append_assoc, ← unhex-two i bs inside) c.loop-i.invariant.1,
     )
 
-pub returns-in-err-digit-at : goal.returns-in-err-digit-at
-returns-in-err-digit-at c =
-    exit _ _ _ _ c.from-residual-in-err-digit-at.ensures.1 (c.in-err-digit-at.ensures (λ k l. c.loop-i.invariant.0 k (omega arith)))
+pub returns-in_err-digit_at : goal.returns-in_err-digit_at
+returns-in_err-digit_at c =
+    exit _ _ _ _ c.from-residual-in_err-digit_at.ensures.1 (c.in_err-digit_at.ensures (λ k l. c.loop-i.invariant.0 k (omega arith)))
 
 pub returns-then-digits-eq1 : goal.returns-then-digits-eq1
 returns-then-digits-eq1 c =
-    let last = c.in-ok-digit-at.ensures in
+    let last = c.in_ok-digit_at.ensures in
     let n = length c.args.digits.now in
     (λ k l. hex_more (n - 1) c.args.digits.now (λ j h. c.loop-i.invariant.0 j (omega arith)) (omega arith) k (omega arith), c.if-digits-eq1.true)
 

@@ -7,5 +7,5 @@ use Rattle.texts.proofs.names.decimal_number.Goals as goal
 pub returns : goal.returns
 returns c =
     let bs = c.args.text.now in
-    let plain = not_from_Decides _ (starts_char 43 bs _ c.starts-with.ensures.cases (omega arith) (omega arith)) c.if-starts-with.false in
+    let plain = not_from_Decides _ (starts_char 43 bs _ c.starts_with.ensures.cases (omega arith) (omega arith)) c.if-starts_with.false in
     rw c.ok.ensures.value (decimal_read bs _ c.parse.ensures.value.0 plain)

@@ -11,11 +11,11 @@ loop-c-preserved c =
     let cut = c.in-Some.ensures.steps.0 in
     let old = c.loop-c.invariant in (
       IsUtf8-past_char _ _ _ old.0 cut,
-      c.in-ok-read.ensures _ ∙ ap (found_after c.loop-c.reader) (sym (chars_past_char _ _ _ old.0 cut)) ∙ old.1,
+      c.in_ok-read.ensures _ ∙ ap (found_after c.loop-c.reader) (sym (chars_past_char _ _ _ old.0 cut)) ∙ old.1,
     )
 
 pub returns : goal.returns
 returns c =
     let rest = chars_rest c.loop-c.c-iterator in
     let none : chars rest ≡ chars [] = ap chars (nil_from_length rest c.in-None.ensures.steps.0.0) in
-    c.in-ok-end-word.ensures.0 ∙ ap (found_after c.loop-c.reader) (sym (none ∙ chars-nil)) ∙ c.loop-c.invariant.1
+    c.in_ok-end_word.ensures.0 ∙ ap (found_after c.loop-c.reader) (sym (none ∙ chars-nil)) ∙ c.loop-c.invariant.1

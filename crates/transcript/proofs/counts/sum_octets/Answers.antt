@@ -8,7 +8,7 @@ loop-step-preserved c =
     let here = c.step-item in
     let old = c.loop-step.invariant in (
       summed_more octets_used c.args.calls.now _ _ _ here.result c.loop-step-test.true here.is old.0
-          (ap (λ n. c.loop-step.sum + n) c.octets-used.ensures),
+          (ap (λ n. c.loop-step.sum + n) c.octets_used.ensures),
       omega arith,
     )
 

@@ -9,7 +9,7 @@ pub returns : goal.returns
 returns c =
     let frame = c.args.frame.now in
     IfOk-weaker c.format.result _ _
-    (λ s e. e ∙ frame_pieces frame (string_bytes c.in-ok-header.header) (string_bytes c.in-ok-payload.payload)
-    (c.in-ok-header.ensures.digits ∙ ap hex_digits (c.split-at.ensures.front ∙ take_capped frame 10 _ c.min.ensures))
-    (c.in-ok-payload.ensures.digits ∙ ap hex_digits (c.split-at.ensures.back ∙ drop_capped frame 10 _ c.min.ensures)))
+    (λ s e. e ∙ frame_pieces frame (string_bytes c.in_ok-header.header) (string_bytes c.in_ok-payload.payload)
+    (c.in_ok-header.ensures.digits ∙ ap hex_digits (c.split_at.ensures.front ∙ take_capped frame 10 _ c.min.ensures))
+    (c.in_ok-payload.ensures.digits ∙ ap hex_digits (c.split_at.ensures.back ∙ drop_capped frame 10 _ c.min.ensures)))
     c.format.ensures.ok

@@ -10,6 +10,6 @@ returns c =
     let received = c.args.received in
     let fits : SFits w32 received.distance = search rules in
     IfOk-weaker c.format.result _ _
-    (λ s e. e ∙ plain_pieces received c.args.out.now (string_bytes c.in-ok-plain.plain) _
-    (c.in-ok-plain.ensures.digits ∙ ap hex_digits c.first-octets.ensures) (to_z-of_z w32 received.distance fits))
+    (λ s e. e ∙ plain_pieces received c.args.out.now (string_bytes c.in_ok-plain.plain) _
+    (c.in_ok-plain.ensures.digits ∙ ap hex_digits c.first_octets.ensures) (to_z-of_z w32 received.distance fits))
     c.format.ensures.ok

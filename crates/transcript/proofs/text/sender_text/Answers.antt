@@ -8,5 +8,5 @@ pub returns : goal.returns
 returns c =
     let step = c.args.step.now in
     IfOk-weaker c.format.result _ _
-    (λ s e. e ∙ sender_pieces step _ (c.in-ok-answer.ensures ∙ ap (sender_answer_text step.answer) c.as-slice.ensures.value))
+    (λ s e. e ∙ sender_pieces step _ (c.in_ok-answer.ensures ∙ ap (sender_answer_text step.answer) c.as_slice.ensures.value))
     c.format.ensures.ok

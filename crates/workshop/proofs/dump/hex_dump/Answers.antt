@@ -7,8 +7,8 @@ loop-line-preserved c =
     let step = c.in-Some.ensures.steps in
     let old = c.loop-line.invariant in (
       step.0 ∙ old.0,
-      rw c.saturating-add-offset.ensures
-          (dumped_more _ _ _ _ c.in-Some.line.now _ _ _ old.1 step.1.2 step.1.0 (rw old.0 at step.1.1) c.in-ok-push-line.ensures),
+      rw c.saturating_add-offset.ensures
+          (dumped_more _ _ _ _ c.in-Some.line.now _ _ _ old.1 step.1.2 step.1.0 (rw old.0 at step.1.1) c.in_ok-push_line.ensures),
     )
 
 pub returns : goal.returns

@@ -8,8 +8,8 @@ use Rattle.workshop.proofs.dump.hex_text.Goals as goal
 pub returns : goal.returns
 returns c =
     let xs = c.args.octets.now in
-    let text : string_bytes c.push-octets.new.text ≡ hex_digits xs = search rules in
+    let text : string_bytes c.push_octets.new.text ≡ hex_digits xs = search rules in
     record {
       digits = text;
-      reads_back = subst (λ bs. HexOf bs xs) (sym text) (reads_back xs (All-from_get_or (λ x. x < 256) xs 0 (λ i l. omega (arith, c.type-inv.octets i))));
+      reads_back = subst (λ bs. HexOf bs xs) (sym text) (reads_back xs (All-from_get_or (λ x. x < 256) xs 0 (λ i l. omega (arith, c.type_inv.octets i))));
     }

@@ -10,16 +10,16 @@ use Rattle.workshop.proofs.request.check_words.Goals.{In-Ok}
 word : (c : In-Ok) → HoldsAt (λ w. Gives c.in-Ok.field c.in-Ok.field-0-1.now (string_bytes w)) c.args.words.now c.loop-i.i
 word c =
     at_read _ (λ w. Gives c.in-Ok.field c.in-Ok.field-0-1.now (string_bytes w)) c.loop-i.i c.index-words-i.result (omega arith) c.index-words-i.is
-    (rw (← c.as-str.ensures.value) c.in-Ok.ensures)
+    (rw (← c.as_str.ensures.value) c.in-Ok.ensures)
 
-pub returns-then-is-given : goal.returns-then-is-given
-returns-then-is-given c =
+pub returns-then-is_given : goal.returns-then-is_given
+returns-then-is_given c =
     let i = c.loop-i.i in
-    let before = subst (λ n. IsGiven (take n c.args.words.now) c.in-Ok.field) (sub-zero i) c.if-is-given.ensures in
-    (i, omega arith, c.in-Ok.field-0-1.now, before, word (goal.at.returns-then-is-given c).In-Ok)
+    let before = subst (λ n. IsGiven (take n c.args.words.now) c.in-Ok.field) (sub-zero i) c.if-is_given.ensures in
+    (i, omega arith, c.in-Ok.field-0-1.now, before, word (goal.at.returns-then-is_given c).In-Ok)
 
 pub loop-i-preserved : goal.loop-i-preserved
 loop-i-preserved c =
     let i = c.loop-i.i in
-    let before = subst (λ n. NotGiven (take n c.args.words.now) c.in-Ok.field) (sub-zero i) c.if-is-given.ensures in
+    let before = subst (λ n. NotGiven (take n c.args.words.now) c.in-Ok.field) (sub-zero i) c.if-is_given.ensures in
     below_more _ i c.loop-i.invariant (c.in-Ok.field, c.in-Ok.field-0-1.now, word (goal.at.loop-i-preserved c).In-Ok, before)

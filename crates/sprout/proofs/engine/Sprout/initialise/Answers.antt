@@ -14,4 +14,4 @@ loop-preserved c =
     let from : SproutState = state_of self.pair self.key self.counter in
     let next : SproutState → SproutState = initial c.args.early in
     let n = c.loop.counter in
-    c.initialise-once.ensures ∙ ap next c.loop.invariant ∙ sym (times-suc n next from) ∙ ap (λ m. times m next from) (sym (add-one n))
+    c.initialise_once.ensures ∙ ap next c.loop.invariant ∙ sym (times-suc n next from) ∙ ap (λ m. times m next from) (sym (add-one n))

@@ -12,4 +12,4 @@ returns c =
     parts_same _ _ _ _ _
     (once _ from _ c.initialised-self.ensures
     ∙ ap (λ g. clock (linear ⊕ output) (g ⊕ output) from) (same-feedback _ _ _ _ _ _ made.0 made.1 made.2))
-    c.counted-on-self.ensures.0
+    c.counted_on-self.ensures.0

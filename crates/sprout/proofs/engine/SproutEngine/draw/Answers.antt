@@ -24,5 +24,5 @@ returns c =
           (parts_same _ _ _ _ _
           (once _ from.registers _ c.clocked-drawn.ensures.moves
           ∙ ap (λ g. clock linear g from.registers) (same-feedback _ _ _ _ _ _ made.0 made.1 made.2))
-          c.counted-on-self.ensures.0);
+          c.counted_on-self.ensures.0);
     }

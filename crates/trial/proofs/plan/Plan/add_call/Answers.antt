@@ -5,5 +5,5 @@ use Rattle.trial.proofs.plan.Plan.add_call.Goals as goal
 
 pub returns : goal.returns
 returns c =
-    let added = c.in-ok-index.ensures in
+    let added = c.in_ok-index.ensures in
     record { calls = calls-room _ _ c.args.call _ 0 (ap length c.new.ensures.items) added.0; sends = added.1; at_index = ap Call added.2 }

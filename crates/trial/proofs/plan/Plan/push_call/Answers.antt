@@ -10,7 +10,7 @@ returns c = (
     step = c.new.result;
     lends = ap (λ (s : SenderStep). length (vec_items s.out)) c.new.ensures;
     asks = ap (λ (s : SenderStep). call_of s.call (length (vec_items c.args.out))) c.new.ensures;
-    added = c.in-ok-push.ensures.items;
+    added = c.in_ok-push.ensures.items;
     receipts = refl;
   },
   refl,

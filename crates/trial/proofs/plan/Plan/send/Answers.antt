@@ -6,7 +6,7 @@ use Rattle.trial.proofs.plan.Plan.send.Goals as goal
 pub returns : goal.returns
 returns c =
     let room = c.args.self.now.setup.room in
-    let a = calls-room _ c.push-call.new.self (SendCall c.args.plain) _ room (size_of _ 0 room c.in-ok-out.ensures) c.in-ok-call.ensures.0 in
+    let a = calls-room _ c.push_call.new.self (SendCall c.args.plain) _ room (size_of _ 0 room c.in_ok-out.ensures) c.in_ok-call.ensures.0 in
     record {
       calls = record { setup = a.setup; step = a.step; lends = a.lends; asks = a.asks; added = a.added; receipts = a.receipts };
       sends = search rules;

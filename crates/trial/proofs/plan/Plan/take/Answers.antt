@@ -3,12 +3,12 @@ use Rattle.std.proofs.lemmas.Result.{err_from_is_err_and}
 use Rattle.trial.proofs.Adding.{names_none}
 use Rattle.trial.proofs.plan.Plan.take.Goals as goal
 
-pub returns-in-err-call : goal.returns-in-err-call
-returns-in-err-call c =
+pub returns-in_err-call : goal.returns-in_err-call
+returns-in_err-call c =
     let p = err_from_is_err_and c.from-residual.result c.from-residual.ensures.1 in
-    names_none c.args.self.now _ c.args.line _ c.in-Deliver.number c.from-residual.result _ p.0 c.in-err-call.field-0.0 p.1 p.2 c.in-err-call.ensures c.in-Deliver.is refl refl
+    names_none c.args.self.now _ c.args.line _ c.in-Deliver.number c.from-residual.result _ p.0 c.in_err-call.field-0.0 p.1 p.2 c.in_err-call.ensures c.in-Deliver.is refl refl
 
-pub returns-in-err-call-2 : goal.returns-in-err-call-2
-returns-in-err-call-2 c =
-    let p = err_from_is_err_and c.from-residual-in-err-call-2.result c.from-residual-in-err-call-2.ensures.1 in
-    names_none c.args.self.now _ c.args.line _ c.in-Alter.frame c.from-residual-in-err-call-2.result _ p.0 c.in-err-call-2.field-0.0 p.1 p.2 c.in-err-call-2.ensures c.in-Alter.is refl refl
+pub returns-in_err-call-2 : goal.returns-in_err-call-2
+returns-in_err-call-2 c =
+    let p = err_from_is_err_and c.from-residual-in_err-call-2.result c.from-residual-in_err-call-2.ensures.1 in
+    names_none c.args.self.now _ c.args.line _ c.in-Alter.frame c.from-residual-in_err-call-2.result _ p.0 c.in_err-call-2.field-0.0 p.1 p.2 c.in_err-call-2.ensures c.in-Alter.is refl refl

@@ -7,7 +7,7 @@ pub returns-in-BadNumber-clause-writes : goal.returns-in-BadNumber-clause-writes
 returns-in-BadNumber-clause-writes g c = rw c.in-BadNumber.is c.write-in-BadNumber.ensures.writes
 
 pub returns-in-LabelAlone-clause-writes : goal.returns-in-LabelAlone-clause-writes
-returns-in-LabelAlone-clause-writes g c = rw c.in-LabelAlone.is c.write-str-in-LabelAlone.ensures.writes
+returns-in-LabelAlone-clause-writes g c = rw c.in-LabelAlone.is c.write_str-in-LabelAlone.ensures.writes
 
 pub returns-in-TwoMessages-clause-writes : goal.returns-in-TwoMessages-clause-writes
-returns-in-TwoMessages-clause-writes g c = rw c.in-TwoMessages.is c.write-str-in-TwoMessages.ensures.writes
+returns-in-TwoMessages-clause-writes g c = rw c.in-TwoMessages.is c.write_str-in-TwoMessages.ensures.writes
