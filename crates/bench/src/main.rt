@@ -4,9 +4,11 @@
 //! The status is 0 where every line is good, and 1 where one is bad; all other lines are made nevertheless.
 #![tactic(auto)]
 
+use anyhow::anyhow;
 use bench_run::conduct::conduct;
 use std::alloc::{AllocError, Global};
 use std::io::Read;
+use std::process::ExitCode;
 use std::{env, fs};
 
 // One line as text. One that is no UTF-8 keeps its place, as a line that cannot be read.
@@ -73,19 +75,17 @@ fn run(rt: &HostRuntime) -> anyhow::Result<()> {
         bad_lines = bad_lines.saturating_add(show(rt, name.as_str())?);
     }
     if bad_lines > 0 {
-        return Err(
-            format!(in rt.alloc(); "bad lines: {bad_lines}")?
-                .as_str()
-                .into(),
-        );
+        return Err(anyhow!("bad lines: {bad_lines}"));
     }
     Ok(())
 }
 
-fn main(rt: HostRuntime) -> anyhow::Result<()> {
-    let result = run(&rt);
-    if let Err(fault) = &result {
-        let _ = eprintln!(rt; "{fault}");
+fn main(rt: HostRuntime) -> ExitCode {
+    match run(&rt) {
+        Ok(()) => ExitCode::SUCCESS,
+        Err(fault) => {
+            let _ = eprintln!(rt; "{fault}");
+            ExitCode::FAILURE
+        }
     }
-    result
 }

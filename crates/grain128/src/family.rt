@@ -24,9 +24,9 @@ fn loaded(key: &[u8], iv: &[u8], ones: u32) -> Pair
 
 /// The registers after initialisation.
 pub(crate) fn started<T: Taps>(taps: T, key: &[u8], iv: &[u8], ones: u32) -> Pair
-    requires { (length key.now ≡ 16) × ((length iv.now ≡ 12) × ((ones ≤ 32) × ((shape taps).size ≡ 128))) }
+    requires { (length key.now ≡ 16) × ((length iv.now ≡ 12) × ((ones ≤ 32) × ((T.shape taps).size ≡ 128))) }
     ensures { held_in 128 result
-        ≡ times 256 (clock ((shape taps).linear ⊕ (shape taps).output) ((shape taps).nonlinear ⊕ (shape taps).output))
+        ≡ times 256 (clock ((T.shape taps).linear ⊕ (T.shape taps).output) ((T.shape taps).nonlinear ⊕ (T.shape taps).output))
         (filled key.now iv.now ones) }
 {
     initialised(taps, loaded(key, iv, ones), 256)

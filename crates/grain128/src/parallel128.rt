@@ -80,8 +80,8 @@ impl Engine for Grain128x32 {
 
 impl Reversible for Grain128x32 {
     fn back(&mut self)
-        ensures pair_after { (t : grain128x32.State) → grain128x32.next t ≡ held_in 128 self.old.pair → held_in 128 self.new.pair ≡ t }
-        ensures pair_after_2 { grain128x32.next (held_in 128 self.new.pair) ≡ held_in 128 self.old.pair }
+        ensures alone { (t : grain128x32.State) → grain128x32.next t ≡ held_in 128 self.old.pair → held_in 128 self.new.pair ≡ t }
+        ensures found { grain128x32.next (held_in 128 self.new.pair) ≡ held_in 128 self.old.pair }
     {
         self.pair = undone(Grain128Taps, self.pair);
     }

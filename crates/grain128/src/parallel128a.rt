@@ -81,8 +81,8 @@ impl Engine for Grain128ax32 {
 
 impl Reversible for Grain128ax32 {
     fn back(&mut self)
-        ensures pair_after { (t : grain128ax32.State) → grain128ax32.next t ≡ held_in 128 self.old.pair → held_in 128 self.new.pair ≡ t }
-        ensures pair_after_2 { grain128ax32.next (held_in 128 self.new.pair) ≡ held_in 128 self.old.pair }
+        ensures alone { (t : grain128ax32.State) → grain128ax32.next t ≡ held_in 128 self.old.pair → held_in 128 self.new.pair ≡ t }
+        ensures found { grain128ax32.next (held_in 128 self.new.pair) ≡ held_in 128 self.old.pair }
     {
         self.pair = undone(Grain128aTaps, self.pair);
     }

@@ -81,8 +81,8 @@ impl Engine for Grain128a {
 
 impl Reversible for Grain128a {
     fn back(&mut self)
-        ensures pair_after { (t : grain128a.State) → grain128a.next t ≡ held_in 128 self.old.pair → held_in 128 self.new.pair ≡ t }
-        ensures pair_after_2 { grain128a.next (held_in 128 self.new.pair) ≡ held_in 128 self.old.pair }
+        ensures alone { (t : grain128a.State) → grain128a.next t ≡ held_in 128 self.old.pair → held_in 128 self.new.pair ≡ t }
+        ensures found { grain128a.next (held_in 128 self.new.pair) ≡ held_in 128 self.old.pair }
     {
         self.pair = undone(Grain128aTaps, self.pair);
     }

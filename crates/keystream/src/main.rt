@@ -3,7 +3,9 @@
 //! The words of the command line, or where it has none those of the standard input, make a request, as `cipher=grain128 key=..`.
 #![tactic(auto)]
 
+use anyhow::anyhow;
 use keystreams::replies::{Reply, reply_to};
+use std::process::ExitCode;
 use std::{env, io};
 use workshop::words::split_words;
 
@@ -28,14 +30,16 @@ fn run(rt: &HostRuntime) -> anyhow::Result<()> {
             print!(rt; "{text}")?;
             Ok(())
         }
-        Reply::Complaint(line) => Err(line.as_str().into()),
+        Reply::Complaint(line) => Err(anyhow!("{line}")),
     }
 }
 
-fn main(rt: HostRuntime) -> anyhow::Result<()> {
-    let result = run(&rt);
-    if let Err(fault) = &result {
-        let _ = eprintln!(rt; "{fault}");
+fn main(rt: HostRuntime) -> ExitCode {
+    match run(&rt) {
+        Ok(()) => ExitCode::SUCCESS,
+        Err(fault) => {
+            let _ = eprintln!(rt; "{fault}");
+            ExitCode::FAILURE
+        }
     }
-    result
 }

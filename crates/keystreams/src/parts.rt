@@ -17,7 +17,7 @@ pub(crate) fn part_refusal<E: Engine>(
     first: u32,
     size: usize,
 ) -> Option<Refusal>
-    ensures { option_map number result ≡ use_refusal cipher key.now iv.now first size }
+    ensures { option_map number result ≡ use_refusal E.cipher key.now iv.now first size }
 {
     match E::refusal(key, iv) {
         Some(refusal) => Some(refusal),

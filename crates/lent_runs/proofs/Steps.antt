@@ -24,7 +24,7 @@ module _ {S : Type 0} (m l : S → ℕ) where
 
   either_of : (s t : S) → Raised m l s t ⊎ Wasted m l s t → Raised mark left (of s) (of t) ⊎ Wasted mark left (of s) (of t)
   either_of s t (inl r) = inl (raised_of s t r)
-  either_of s t (inr w) = inr (record { mark_is = w.mark-is; left_is = w.left_is })
+  either_of s t (inr w) = inr (record { mark_is = w.mark_is; left_is = w.left_is })
 
   torn_of : (w n : ℕ) (s t : S) → Torn m l w n s t → Torn mark left w n (of s) (of t)
   torn_of w n s t r = record { either = either_of s t r.either; whole = λ h. raised_of s t (r.whole h) }

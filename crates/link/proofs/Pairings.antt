@@ -32,10 +32,10 @@ length-session_iv (x ∷ xs) n = omega arith
 forbids-blank : (c : Cipher) (x p q r s : ℕ) (xs : List ℕ)
     → c.forbids (x ∷ p ∷ q ∷ r ∷ s ∷ xs) ≡ c.forbids (x ∷ 0 ∷ 0 ∷ 0 ∷ 0 ∷ xs)
 forbids-blank c x p q r s xs =
-    c.forbids-free (x ∷ 0 ∷ q ∷ r ∷ s ∷ xs) 1 p (lit≤ tt) (lit≤ tt)
-    ∙ c.forbids-free (x ∷ 0 ∷ 0 ∷ r ∷ s ∷ xs) 2 q (lit≤ tt) (lit≤ tt)
-    ∙ c.forbids-free (x ∷ 0 ∷ 0 ∷ 0 ∷ s ∷ xs) 3 r (lit≤ tt) (lit≤ tt)
-    ∙ c.forbids-free (x ∷ 0 ∷ 0 ∷ 0 ∷ 0 ∷ xs) 4 s (lit≤ tt) (lit≤ tt)
+    c.forbids_free (x ∷ 0 ∷ q ∷ r ∷ s ∷ xs) 1 p (lit≤ tt) (lit≤ tt)
+    ∙ c.forbids_free (x ∷ 0 ∷ 0 ∷ r ∷ s ∷ xs) 2 q (lit≤ tt) (lit≤ tt)
+    ∙ c.forbids_free (x ∷ 0 ∷ 0 ∷ 0 ∷ s ∷ xs) 3 r (lit≤ tt) (lit≤ tt)
+    ∙ c.forbids_free (x ∷ 0 ∷ 0 ∷ 0 ∷ 0 ∷ xs) 4 s (lit≤ tt) (lit≤ tt)
 
 -- whether a session's IV is forbidden does not depend on the session number
 pub forbids_any : (c : Cipher) (label : List ℕ) (m n : ℕ)

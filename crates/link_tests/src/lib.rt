@@ -6,6 +6,6 @@ mod exchanges;
 #[cfg(test)]
 mod refusals;
 #[cfg(test)]
-mod runs;
-#[cfg(test)]
 mod shared;
+#[cfg(test)]
+mod whole_runs;

@@ -157,9 +157,9 @@ impl Engine for Sprout {
 
 impl Reversible for Sprout {
     fn back(&mut self)
-        ensures counter_after { (t : sprout.State) → sprout.next t ≡ state_of self.old.pair self.old.key self.old.counter
+        ensures alone { (t : sprout.State) → sprout.next t ≡ state_of self.old.pair self.old.key self.old.counter
             → state_of self.new.pair self.new.key self.new.counter ≡ t }
-        ensures counter_after_2 { sprout.next (state_of self.new.pair self.new.key self.new.counter)
+        ensures found { sprout.next (state_of self.new.pair self.new.key self.new.counter)
             ≡ state_of self.old.pair self.old.key self.old.counter }
     {
         let counter = counted_back(self.counter);

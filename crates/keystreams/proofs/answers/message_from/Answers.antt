@@ -15,7 +15,7 @@ returns-in_err-uncovered g c =
     length_again cipher (place cipher key iv q) c.args.message.now (vec_items c.in_ok-covered.covered) c.as_slice.result.now
     c.in_ok-covered.ensures.1 c.as_slice.ensures.value
     in
-    exit _ _ _ _ c.from-residual-in_err-uncovered.ensures.1
+    exit _ _ _ _ c.from_residual-in_err-uncovered.ensures.1
     (subst (λ n. CoverRefused cipher key iv q n c.in_err-uncovered.field-0.0) same c.in_err-uncovered.ensures)
 
 pub returns : goal.returns

@@ -10,12 +10,12 @@ returns-in_default c = refused_three Alter _ number_kind number_kind octets_kind
 
 pub returns-in_err-number : goal.returns-in_err-number
 returns-in_err-number c =
-    exit _ _ _ _ c.from-residual.ensures.1 (c.in_err-number.ensures _ (reads_frame _ _ _ _ c.in-Some.ensures))
+    exit _ _ _ _ c.from_residual.ensures.1 (c.in_err-number.ensures _ (reads_frame _ _ _ _ c.in-Some.ensures))
 
 pub returns-in_err-number-2 : goal.returns-in_err-number-2
 returns-in_err-number-2 c =
-    exit _ _ _ _ c.from-residual-in_err-number-2.ensures.1 (c.in_err-number-2.ensures _ (reads_at _ _ _ _ c.in-Some.ensures))
+    exit _ _ _ _ c.from_residual-in_err-number-2.ensures.1 (c.in_err-number-2.ensures _ (reads_at _ _ _ _ c.in-Some.ensures))
 
 pub returns-in_err-octets : goal.returns-in_err-octets
 returns-in_err-octets c =
-    exit _ _ _ _ c.from-residual-in_err-octets.ensures.1 (c.in_err-octets.ensures _ (reads_change _ _ _ _ c.in-Some.ensures))
+    exit _ _ _ _ c.from_residual-in_err-octets.ensures.1 (c.in_err-octets.ensures _ (reads_change _ _ _ _ c.in-Some.ensures))

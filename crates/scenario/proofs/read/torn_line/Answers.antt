@@ -10,8 +10,8 @@ returns-in_default c = refused_two Torn _ number_kind word32_kind refl c.in_defa
 
 pub returns-in_err-number : goal.returns-in_err-number
 returns-in_err-number c =
-    exit _ _ _ _ c.from-residual.ensures.1 (c.in_err-number.ensures _ (reads_writes _ _ c.in-Some.junk.now c.in-Some.ensures))
+    exit _ _ _ _ c.from_residual.ensures.1 (c.in_err-number.ensures _ (reads_writes _ _ c.in-Some.junk.now c.in-Some.ensures))
 
 pub returns-in_err-word32 : goal.returns-in_err-word32
 returns-in_err-word32 c =
-    exit _ _ _ _ c.from-residual-in_err-word32.ensures.1 (c.in_err-word32.ensures _ (reads_junk _ c.in-Some.writes.now _ c.in-Some.ensures))
+    exit _ _ _ _ c.from_residual-in_err-word32.ensures.1 (c.in_err-word32.ensures _ (reads_junk _ c.in-Some.writes.now _ c.in-Some.ensures))

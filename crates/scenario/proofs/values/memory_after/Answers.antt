@@ -5,12 +5,12 @@ use Rattle.scenario.proofs.values.memory_after.Goals as goal
 
 pub returns-in_err-octets : goal.returns-in_err-octets
 returns-in_err-octets c =
-    exit _ _ _ _ c.from-residual.ensures.1
+    exit _ _ _ _ c.from_residual.ensures.1
     (c.in_err-octets.ensures _ (reads_octets c.args.command _ c.in-Some.word.now _ c.requires (inl refl) c.in-Some.ensures))
 
 pub returns-in_err-number : goal.returns-in_err-number
 returns-in_err-number c =
     let count = c.in-Some-two_words.count.now in
     let fresh : c.in-Some-two_words.mark.now ≡ codes "fresh" = search rules in
-    exit _ _ _ _ c.from-residual-in_err-number.ensures.1
+    exit _ _ _ _ c.from_residual-in_err-number.ensures.1
     (c.in_err-number.ensures _ (reads_fresh c.args.command _ count _ c.requires (inr (inl refl)) (c.in-Some-two_words.ensures ∙ ap (λ m. m ∷ count ∷ []) fresh)))

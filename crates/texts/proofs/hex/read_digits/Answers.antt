@@ -8,13 +8,13 @@ use Rattle.texts.proofs.hex.read_digits.Goals as goal
 
 pub returns-in_err-high : goal.returns-in_err-high
 returns-in_err-high c =
-    exit _ _ _ _ c.from-residual.ensures.1 (c.in_err-high.ensures c.loop-i.invariant.0)
+    exit _ _ _ _ c.from_residual.ensures.1 (c.in_err-high.ensures c.loop-i.invariant.0)
 
 pub returns-in_err-low : goal.returns-in_err-low
 returns-in_err-low c =
     let high = c.in_ok-high.ensures in
     let good = hex_more (2 * c.loop-i.i) c.args.digits.now c.loop-i.invariant.0 (omega arith) in
-    exit _ _ _ _ c.from-residual-in_err-low.ensures.1 (c.in_err-low.ensures good)
+    exit _ _ _ _ c.from_residual-in_err-low.ensures.1 (c.in_err-low.ensures good)
 
 pub loop-i-preserved : goal.loop-i-preserved
 loop-i-preserved c =
@@ -31,7 +31,7 @@ loop-i-preserved c =
 
 pub returns-in_err-digit_at : goal.returns-in_err-digit_at
 returns-in_err-digit_at c =
-    exit _ _ _ _ c.from-residual-in_err-digit_at.ensures.1 (c.in_err-digit_at.ensures (λ k l. c.loop-i.invariant.0 k (omega arith)))
+    exit _ _ _ _ c.from_residual-in_err-digit_at.ensures.1 (c.in_err-digit_at.ensures (λ k l. c.loop-i.invariant.0 k (omega arith)))
 
 pub returns-then-digits-eq1 : goal.returns-then-digits-eq1
 returns-then-digits-eq1 c =

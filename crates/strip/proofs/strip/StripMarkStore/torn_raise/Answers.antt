@@ -19,7 +19,7 @@ pub returns : goal.returns
 returns c =
     let same = ap (λ k. raised_by k (memory c.args.self.now)) (made c) in
     record {
-      0 =
+      granted =
           MatchResult-weaker c.clear_lowest.result c.clear_lowest.ensures
           (λ _ p. (p.0, torn c.args.self.now _ c.args.writes_done c.args.junk p.0 (p.1 ∙ same)))
           (λ _ q. (q.0, q.1, unchanged c.args.self.now c.clear_lowest.new.octets q.2));
