@@ -6,5 +6,5 @@ returns c =
     inr (
       c.in-Ok.request,
       c.in-Ok.ensures,
-      (c.in-Err-answer_named.fault, c.in-Err-answer_named.ensures, c.in_ok-fault_line.ensures),
+      (c.in-Err-answer_named.fault, c.in-Err-answer_named.ensures, c.in_ok-fault_line-in-Err-answer_named.ensures),
     )

@@ -7,7 +7,7 @@ returns-in-Refused c = rw c.in-Refused.is c.refusal_text.ensures
 
 pub returns-in-MessageRefused : goal.returns-in-MessageRefused
 unfolding fault_line
-returns-in-MessageRefused c = rw c.in-MessageRefused.is c.refusal-text_in-MessageRefused.ensures
+returns-in-MessageRefused c = rw c.in-MessageRefused.is c.refusal_text-in-MessageRefused.ensures
 
 pub returns-in-NoMemory : goal.returns-in-NoMemory
 unfolding fault_line

@@ -9,4 +9,4 @@ returns-in-len1 c = rw c.as_str.ensures.value (ap (map string_bytes) (one_read _
 pub returns-in_default : goal.returns-in_default
 returns-in_default c = λ a e.
     let size = row_size string_bytes _ (a ∷ []) e in
-    elim c.in_default.branch [ in-default-via-then-words-lt1 w ↦ omega (arith, ltb-true, ltb-false) | in-default-via-else-words-lt1+else-words-lt2 w ↦ omega (arith, ltb-true, ltb-false) ]
+    elim c.in_default.branch [ in_default-via-then-words-lt1 w ↦ omega (arith, ltb-true, ltb-false) | in_default-via-else-words-lt1+else-words-lt2 w ↦ omega (arith, ltb-true, ltb-false) ]

@@ -12,4 +12,4 @@ returns-in-len3 c =
 pub returns-in_default : goal.returns-in_default
 returns-in_default c = λ a b d e.
     let size = row_size string_bytes _ (a ∷ b ∷ d ∷ []) e in
-    elim c.in_default.branch [ in-default-via-then-words-lt3 w ↦ omega (arith, ltb-true, ltb-false) | in-default-via-else-words-lt3+else-words-lt4 w ↦ omega (arith, ltb-true, ltb-false) ]
+    elim c.in_default.branch [ in_default-via-then-words-lt3 w ↦ omega (arith, ltb-true, ltb-false) | in_default-via-else-words-lt3+else-words-lt4 w ↦ omega (arith, ltb-true, ltb-false) ]

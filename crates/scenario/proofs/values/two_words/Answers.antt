@@ -11,4 +11,4 @@ returns-in-len2 c =
 pub returns-in_default : goal.returns-in_default
 returns-in_default c = λ a b e.
     let size = row_size string_bytes _ (a ∷ b ∷ []) e in
-    elim c.in_default.branch [ in-default-via-then-words-lt2 w ↦ omega (arith, ltb-true, ltb-false) | in-default-via-else-words-lt2+else-words-lt3 w ↦ omega (arith, ltb-true, ltb-false) ]
+    elim c.in_default.branch [ in_default-via-then-words-lt2 w ↦ omega (arith, ltb-true, ltb-false) | in_default-via-else-words-lt2+else-words-lt3 w ↦ omega (arith, ltb-true, ltb-false) ]

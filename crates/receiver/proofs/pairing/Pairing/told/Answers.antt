@@ -8,7 +8,7 @@ at_start octets copied rest same = take_at copied rest (length octets) (ap lengt
 pub returns : goal.returns
 returns c =
     record {
-      holds-key = at_start _ _ _ c.copy_from_slice.ensures.after;
-      holds-label = at_start _ _ _ c.copy_from_slice-2.ensures.after;
-      holds-allowance = refl;
+      holds_key = at_start _ _ _ c.copy_from_slice.ensures.after;
+      holds_label = at_start _ _ _ c.copy_from_slice-2.ensures.after;
+      holds_allowance = refl;
     }
