@@ -1,5 +1,5 @@
 -- The column: 32-bit words in pairs, of which at most the first 8,192 words are used; an odd last word is ignored.
-use Rattle.std.specs.Prelude.{ℕ, zero, suc, ◌+◌, ◌-◌, min, max, Bool, true, false, cond, ◌&&◌, List, [], ◌∷◌, ◌++◌, take, drop, ◌==◌}
+use Rattle.std.specs.Prelude.{ℕ, zero, suc, ◌+◌, ◌-◌, min, max, Bool, cond, ◌&&◌, List, [], ◌∷◌, ◌++◌, take, drop, ◌==◌}
 
 -- the words that are used
 abbrev pub used : List ℕ → List ℕ

@@ -1,5 +1,5 @@
 -- The registers that a key, an IV and a run of ones fill.
-use Rattle.std.proofs.Common.{◌≡◌, ℕ, zero, suc, ◌+◌, ◌-◌, ◌*◌, ◌/◌, ◌%◌, ◌^◌, ◌<◌, ◌≤◌, Bool, true, false, cond, List, [], ◌∷◌, ◌++◌, length, take, replicate, sym, refl, ap, ◌∙◌, subst, ap₂, mul_comm, pow-suc, arith, length-append, take_all, pow_pos, pow_mono, shl_exact}
+use Rattle.std.proofs.Common.{◌≡◌, ℕ, zero, suc, ◌+◌, ◌-◌, ◌*◌, ◌%◌, ◌^◌, ◌<◌, ◌≤◌, Bool, true, false, List, ◌++◌, length, take, replicate, sym, refl, ap, ◌∙◌, subst, ap₂, pow-suc, arith, length-append, take_all, shl_exact}
 use lib.Bits.{bit_or, or_shifted_r}
 use lib.ListN.{length-replicate}
 use Rattle.std.proofs.lemmas.Nat.{one_shl}

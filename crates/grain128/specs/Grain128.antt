@@ -1,5 +1,5 @@
 -- Grain-128.
-use Rattle.std.specs.Prelude.{ℕ, true, false, replicate, refl}
+use Rattle.std.specs.Prelude.{true, false, replicate, refl}
 use Rattle.std.proofs.Common.{lit≤}
 use Rattle.stream.specs.Ciphers.{Cipher}
 use Rattle.registers.specs.Polynomials.{Poly, S, B, ◌⊕◌, ◌⊗◌}

@@ -1,9 +1,9 @@
 -- Grain-128a in its mode without authentication, in which every z is keystream: Grain-128 with three changes.
-use Rattle.std.specs.Prelude.{◌≡◌, ℕ, ◌≤◌, true, false, ◌≢◌, List, [], ◌∷◌, ◌++◌, replicate, slice_set, refl}
+use Rattle.std.specs.Prelude.{◌≡◌, ℕ, ◌≤◌, true, false, List, [], ◌∷◌, ◌++◌, replicate, slice_set}
 use Rattle.std.proofs.Common.{ap, arith, lit≤, get_or-set_other}
 use Rattle.stream.specs.Bits.{bit, octets_bit}
 use Rattle.stream.specs.Ciphers.{Cipher}
-use Rattle.registers.specs.Polynomials.{Poly, S, B, ◌⊕◌, ◌⊗◌}
+use Rattle.registers.specs.Polynomials.{S, B, ◌⊕◌, ◌⊗◌}
 use Rattle.grain128.specs.Family.{Member, cipher}
 use Rattle.grain128.specs.Grain128.{nonlinear, output_front}
 

@@ -1,18 +1,18 @@
 -- The receiver's part of the promise: a frame that comes unaltered opens to its own plain.
-use Rattle.std.proofs.Common.{◌≡◌, ℕ, zero, suc, ◌+◌, ◌*◌, ◌/◌, ◌%◌, ◌<◌, ◌≤◌, Bool, true, false, cond, not, ◌||◌, eqb, ltb, List, [], ◌∷◌, ◌++◌, length, drop, ℤ, Some, None, Option, sym, refl, ap, ◌∙◌, subst, ap₂, arith}
+use Rattle.std.proofs.Common.{◌≡◌, ℕ, ◌+◌, ◌*◌, ◌/◌, ◌%◌, ◌<◌, ◌≤◌, false, not, ltb, List, [], ◌∷◌, ◌++◌, length, ℤ, Some, None, Option, sym, refl, ap, ◌∙◌, subst, ap₂, arith}
 use native.Mathlib.Nat.{div-div-eq-div-mul}
 use lib.Bits.{bit_xor}
 use Rattle.std.proofs.lemmas.Bool.{le-ltb, ne_eqb, eq-eqb, or_from}
-use Rattle.stream.specs.Bits.{first, packed, times}
-use Rattle.stream.specs.Ciphers.{Cipher, OneCipher, later, stream, octet, keystream_bit, cover, session_iv, four_octets}
+use Rattle.stream.specs.Bits.{packed, times}
+use Rattle.stream.specs.Ciphers.{Cipher, OneCipher, later, octet, keystream_bit, cover, session_iv, four_octets}
 use Rattle.stream.proofs.Packed.{first_cong}
 use Rattle.stream.proofs.Streams.{later-add, length-cover, cover_twice}
 use Rattle.marks.specs.Stores.{largest_mark}
-use Rattle.link.specs.Frames.{frame, header, two_octets, octets_number, frame_session, frame_place, frame_length, frame_payload, no_frame}
-use Rattle.link.specs.Sessions.{state_at, pair_refusal}
+use Rattle.link.specs.Frames.{frame, two_octets, octets_number, frame_session, frame_place, frame_length, frame_payload, no_frame}
+use Rattle.link.specs.Sessions.{state_at}
 use Rattle.link.specs.Senders.{sent_frame}
 use Rattle.link.specs.Receivers.{Known, receive_refusal, distance_to, Stands}
-use Rattle.histories.specs.Calls.{Receipt, pairing, receiving, Outcome, paired, plain_at, turned_down, Event, came}
+use Rattle.histories.specs.Calls.{receiving, Outcome, plain_at, Event, came}
 use Rattle.histories.specs.Histories.{Receiver, receiver, Receives, pair_accepted, pair_refused, receive_accepted, receive_refused, Received}
 use Rattle.histories.specs.Promises.{Message, Session, told, PairedFor, Opens, All}
 use Rattle.histories.proofs.Checks.{Fits, some_none, none_refused}

@@ -1,9 +1,9 @@
 -- Sessions read off a history: their numbers rise, and every message stands where its session's place was.
-use Rattle.std.proofs.Common.{◌≡◌, ℕ, ◌+◌, ◌*◌, ◌<◌, ◌≤◌, ◌⊎◌, List, [], ◌∷◌, ◌++◌, length, sym, refl, ap, ◌∙◌, subst, inl, inr, le_refl, arith}
+use Rattle.std.proofs.Common.{◌≡◌, ℕ, ◌+◌, ◌*◌, ◌≤◌, List, [], ◌∷◌, ◌++◌, length, refl, ap, inl, inr, le_refl, arith}
 use Rattle.stream.specs.Ciphers.{Cipher, later, session_iv}
-use Rattle.marks.specs.Stores.{Raised, Wasted, Torn, largest_mark}
+use Rattle.marks.specs.Stores.{Torn, largest_mark}
 use Rattle.link.specs.Senders.{sent_frame}
-use Rattle.histories.specs.Calls.{Call, opening, torn_opening, sending, closing, power_cut, Answer, opened, torn, sent, rested, refused, not_admitted, Entry, made}
+use Rattle.histories.specs.Calls.{Entry}
 use Rattle.histories.specs.Histories.{Marks, mark, left, marks_of, Sender, at_rest, in_session, Step, open_accepted, open_refused, torn_accepted, torn_refused, send_accepted, send_refused, closed, cut, cut_at_rest, send_at_rest, close_at_rest, open_in_session, torn_in_session, History}
 use Rattle.histories.specs.Promises.{Message, Session, messages, sessions, all_messages, joined, All}
 use Rattle.histories.proofs.Checks.{allowed, Fits, send_fits}

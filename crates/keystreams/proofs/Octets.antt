@@ -2,7 +2,6 @@
 use Rattle.std.proofs.Common.{◌≡◌, ℕ, ◌+◌, ◌*◌, ◌<◌, List, length, get_or, replicate, sym, refl, ap, ◌∙◌, arith, ext_get_or}
 use lib.Bits.{bit_xor, xor_zero_l}
 use lib.ListN.{length-replicate, get_or-replicate}
-use Rattle.stream.specs.Bits.{first}
 use Rattle.stream.specs.Ciphers.{Cipher, later, octet, keystream_octet, cover}
 use Rattle.stream.proofs.Packed.{length-first, get_or-first}
 use Rattle.stream.proofs.Streams.{later_more, length-cover, get_or-cover}

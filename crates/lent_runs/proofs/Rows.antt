@@ -2,9 +2,9 @@
 use Rattle.std.proofs.Common.{◌≡◌, ℕ, ◌+◌, ◌<◌, ◌≤◌, List, [], ◌∷◌, ◌++◌, length, get_or, take, drop, set, Some, None, vec_items, Option, sym, refl, ap, ◌∙◌, subst, arith, length-set}
 use Rattle.std.proofs.lemmas.List.{take_all, take_more, take_more_set, drop_more, drop-set-lt}
 use Rattle.stream.specs.Ciphers.{Cipher}
-use Rattle.histories.specs.Calls.{Entry, Receipt, Event, came}
-use Rattle.histories.specs.Histories.{Sender, History, Receiver, Receives, Received}
-use Rattle.lent_runs.specs.Readings.{Turned, Turns, entries, receipt_of, outcome_of, Happened, Taken, Comings, event_of, events}
+use Rattle.histories.specs.Calls.{Receipt, Event}
+use Rattle.histories.specs.Histories.{Sender, History, Receiver, Received}
+use Rattle.lent_runs.specs.Readings.{Turned, Turns, entries, receipt_of, Happened, Taken, Comings, event_of, events}
 use Rattle.lent_runs.specs.declared.calls.SenderStep.{SenderStep}
 use Rattle.lent_runs.specs.declared.calls.ReceiverAnswer.{ReceiverAnswer}
 use Rattle.lent_runs.specs.declared.calls.ReceiverStep.{ReceiverStep}

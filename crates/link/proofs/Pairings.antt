@@ -2,7 +2,7 @@
 use Rattle.std.proofs.Common.{◌≡◌, ℕ, ◌+◌, ◌-◌, ◌≤◌, Bool, true, false, List, [], ◌∷◌, ◌++◌, length, take, drop, is_some, Some, None, Ok, Err, Option, Result, sym, refl, ap, ◌∙◌, arith, lit≤, take_at, MatchResult}
 use native.Mathlib.Nat.{sub-zero}
 use Rattle.std.specs.Option.{option_map}
-use Rattle.std.proofs.lemmas.Bool.{not-false, not_from_true, eqb-true, eqb-false, eq-eqb, ltb-false, or_parts}
+use Rattle.std.proofs.lemmas.Bool.{not-false, eqb-true, eqb-false, eq-eqb, ltb-false, or_parts}
 use Rattle.stream.specs.Ciphers.{Cipher, load_refusal, session_iv}
 use Rattle.stream.specs.Refusals.{number, first_refusal}
 use Rattle.stream.specs.declared.refusal.Refusal.{Refusal}

@@ -1,5 +1,5 @@
 -- What a receiver's calls do.
-use Rattle.std.specs.Prelude.{◌≡◌, ℕ, ◌+◌, cond, List, [], ◌∷◌, length, ℤ, pos, ◌-ℤ◌, Some, None, Option, ◌==◌, nat_lt}
+use Rattle.std.specs.Prelude.{◌≡◌, ℕ, ◌+◌, cond, List, [], ◌∷◌, ℤ, pos, ◌-ℤ◌, Some, None, Option, ◌==◌, nat_lt}
 use Rattle.stream.specs.Ciphers.{Cipher}
 use Rattle.stream.specs.Refusals.{first_refusal}
 use Rattle.link.specs.Frames.{frame_session, frame_place, frame_length, no_frame}

@@ -1,6 +1,6 @@
 -- What a sender's calls do. The store is known by its mark and its raises left, the engine by its state.
-use Rattle.std.specs.Prelude.{◌≡◌, ℕ, ◌+◌, ◌*◌, ◌||◌, List, [], ◌∷◌, ◌++◌, length, Option, ◌==◌, nat_lt}
-use Rattle.stream.specs.Ciphers.{Cipher, later, cover}
+use Rattle.std.specs.Prelude.{ℕ, ◌+◌, ◌||◌, List, [], ◌∷◌, ◌++◌, Option, ◌==◌, nat_lt}
+use Rattle.stream.specs.Ciphers.{Cipher, cover}
 use Rattle.stream.specs.Refusals.{first_refusal}
 use Rattle.link.specs.Frames.{frame}
 use Rattle.link.specs.Sessions.{pairing_tests}

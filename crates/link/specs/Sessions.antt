@@ -1,5 +1,5 @@
 -- A session: a key, a label, a number and an allowance in octets; its keystream octets are known by number and place.
-use Rattle.std.specs.Prelude.{ℕ, ◌*◌, Bool, not, ◌||◌, List, [], ◌∷◌, ◌++◌, length, Option, ◌==◌, nat_lt}
+use Rattle.std.specs.Prelude.{ℕ, ◌*◌, Bool, not, ◌||◌, List, [], ◌∷◌, length, Option, ◌==◌, nat_lt}
 use Rattle.stream.specs.Ciphers.{Cipher, later, session_iv}
 use Rattle.stream.specs.Refusals.{first_refusal}
 

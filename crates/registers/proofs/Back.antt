@@ -1,9 +1,9 @@
 -- Stepping back: a clock whose feedbacks each have index 0 of their own register as a term of its own can be undone, in one way.
-use Rattle.std.proofs.Common.{◌≡◌, ℕ, zero, suc, ◌+◌, ◌-◌, ◌*◌, ◌/◌, ◌%◌, ◌^◌, ◌<◌, ◌≤◌, Bool, true, false, not, T, List, [], ◌∷◌, ◌++◌, length, get_or, sym, refl, ap, ◌∙◌, ap₂, add-zero, add-one, one-add, arith, length-append}
+use Rattle.std.proofs.Common.{◌≡◌, ℕ, zero, suc, ◌+◌, ◌-◌, ◌*◌, ◌/◌, ◌%◌, ◌^◌, ◌<◌, ◌≤◌, Bool, true, false, T, List, [], ◌∷◌, ◌++◌, length, get_or, sym, refl, ap, ◌∙◌, ap₂, add-zero, add-one, one-add, arith, length-append}
 use lib.Bits.{bit_xor}
 use Rattle.stream.specs.Bits.{bit, bits, first, plus}
 use Rattle.stream.proofs.Packed.{first-add, first_cong, get_or-first, length-bits}
-use Rattle.registers.specs.Polynomials.{Poly, value, within, swapped, without_s, without_b, lone_s, lone_b}
+use Rattle.registers.specs.Polynomials.{Poly, within, swapped, without_b, lone_s, lone_b}
 use Rattle.registers.specs.Words.{window_of, word}
 use Rattle.registers.specs.declared.window.Window.{Window}
 use Rattle.registers.specs.Registers.{Registers, Shape, moved, value_at, clock, held}

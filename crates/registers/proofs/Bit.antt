@@ -1,5 +1,5 @@
 -- The bits of sums, products, shifts and parts of numbers.
-use Rattle.std.proofs.Common.{◌≡◌, ℕ, zero, suc, ◌+◌, ◌-◌, ◌*◌, ◌/◌, ◌%◌, ◌^◌, ◌<◌, ◌≤◌, Bool, true, false, ◌&&◌, eqb, sym, refl, ap, ◌∙◌, ap₂, arith, shr-shr}
+use Rattle.std.proofs.Common.{◌≡◌, ℕ, zero, suc, ◌+◌, ◌-◌, ◌*◌, ◌/◌, ◌%◌, ◌^◌, ◌<◌, true, false, ◌&&◌, eqb, sym, refl, ap, ◌∙◌, ap₂, arith, shr-shr}
 use native.Mathlib.Nat.{zero-div}
 use lib.Bits.{bit_and, bit_xor, xor_shr, and_shr, xor_mod, and_mod, and_mask}
 use lib.Pow.{high, low, field, mod-mod-pow, ones_split, ones_lt}

@@ -1,5 +1,5 @@
 -- Masks and shifts as the code writes them.
-use Rattle.std.proofs.Common.{◌≡◌, ℕ, zero, suc, ◌+◌, ◌-◌, ◌*◌, ◌/◌, ◌%◌, ◌^◌, ◌<◌, ◌≤◌, sym, refl, ap, ◌∙◌, ap₂, mod-lt, arith, pow_pos, shl_exact, shr_lt}
+use Rattle.std.proofs.Common.{◌≡◌, ℕ, ◌+◌, ◌-◌, ◌*◌, ◌/◌, ◌%◌, ◌^◌, ◌<◌, ◌≤◌, ap, ◌∙◌, ap₂, mod-lt, arith, pow_pos, shl_exact, shr_lt}
 use lib.Bits.{bit_and, bit_or, and_mask, or_shifted, or_shifted_r}
 use Rattle.std.proofs.lemmas.Nat.{one_shl}
 

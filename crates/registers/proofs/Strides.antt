@@ -1,7 +1,7 @@
 -- Many clocks at once: what the strides share, over the length of the registers and the number of clocks.
-use Rattle.std.proofs.Common.{◌≡◌, ℕ, zero, suc, ◌+◌, ◌-◌, ◌*◌, ◌/◌, ◌%◌, ◌^◌, ◌<◌, ◌≤◌, Bool, true, false, cond, T, ltb, List, [], ◌∷◌, ◌++◌, get_or, sym, refl, ap, ◌∙◌, subst, ap₂, ⊎_elim, add-zero, add-suc, add-one, arith}
+use Rattle.std.proofs.Common.{◌≡◌, ℕ, zero, suc, ◌+◌, ◌-◌, ◌*◌, ◌/◌, ◌%◌, ◌^◌, ◌<◌, ◌≤◌, Bool, false, cond, T, ltb, List, [], ◌∷◌, ◌++◌, sym, refl, ap, ◌∙◌, subst, ap₂, ⊎_elim, add-zero, add-one, arith}
 use Rattle.std.proofs.lemmas.Bool.{lt-ltb, le-ltb, cond-true, cond-false, cases_lt}
-use Rattle.stream.specs.Bits.{bit, bits, first, packed, plus, times}
+use Rattle.stream.specs.Bits.{bit, bits, first, packed, times}
 use Rattle.stream.proofs.Packed.{first-add, first_cong, get_or-first, times-add, packed-bits}
 use Rattle.registers.specs.Polynomials.{Poly, value, within}
 use Rattle.registers.specs.Registers.{Registers, Shape, moved, value_at, clock, held}

@@ -1,8 +1,8 @@
 -- The values of polynomials: what they depend on, and their words.
-use Rattle.std.proofs.Common.{◌≡◌, ℕ, zero, suc, ◌+◌, ◌-◌, ◌*◌, ◌/◌, ◌%◌, ◌^◌, ◌<◌, ◌≤◌, Bool, true, false, cond, not, ◌&&◌, ◌||◌, T, leb, ◌⊎◌, sym, refl, ap, ◌∙◌, ap₂, inl, inr, le_trans, div-one, arith, eqb→eq, ltb→lt}
+use Rattle.std.proofs.Common.{◌≡◌, ℕ, zero, suc, ◌+◌, ◌-◌, ◌/◌, ◌%◌, ◌^◌, ◌<◌, ◌≤◌, Bool, true, false, ◌&&◌, ◌||◌, T, leb, ◌⊎◌, sym, refl, ap, ◌∙◌, ap₂, inl, inr, le_trans, div-one, arith, eqb→eq, ltb→lt}
 use Rattle.std.proofs.lemmas.Bool.{leb-true, leb-false, cond_both}
 use Rattle.stream.specs.Bits.{bit, plus}
-use Rattle.registers.specs.Polynomials.{Poly, S, B, fixed, ◌⊕◌, ◌⊗◌, value, within, swapped, without_s, without_b, lone_s, lone_b}
+use Rattle.registers.specs.Polynomials.{Poly, S, B, fixed, ◌⊕◌, ◌⊗◌, value, within, swapped, without_s, lone_s}
 use Rattle.registers.specs.Words.{window_of, shifted, from_index, filled, word}
 use Rattle.registers.proofs.Bit.{bit-xor, bit-and, bit_shr, bit-mod, bit-zero, ones_bit}
 

@@ -1,17 +1,15 @@
 -- What the receiver's calls of the code promise, as steps of a history.
-use Rattle.std.proofs.Common.{◌≡◌, ℕ, ◌+◌, Bool, false, not, ◌||◌, eqb, ltb, List, [], ◌∷◌, ◌++◌, length, take, drop, ℤ, Some, None, Option, sym, refl, ap, ◌∙◌, subst, ap₂, arith, length-drop, take_at}
+use Rattle.std.proofs.Common.{◌≡◌, ℕ, ◌+◌, eqb, ltb, List, [], ◌∷◌, length, take, drop, ℤ, Some, None, Option, sym, ap, ◌∙◌, subst, arith, length-drop, take_at}
 use Rattle.std.proofs.lemmas.Bool.{or_parts, not-false, eqb-true}
 use Rattle.stream.specs.Ciphers.{Cipher, cover}
 use Rattle.stream.proofs.Streams.{length-cover}
 use Rattle.link.specs.Frames.{frame_session, frame_place, frame_length, frame_payload, no_frame}
-use Rattle.link.specs.Sessions.{pair_refusal}
 use Rattle.link.specs.Receivers.{Known, Stands, receive_refusal, distance_to}
 use Rattle.receiver.specs.Receiving.{Held, InPlace, Pairs, Accepts}
 use Rattle.receiver.specs.declared.Received.{Received}
-use Rattle.runs.specs.Calls.{Event, came, pairing, receiving, paired, plain_at, turned_down, Receipt, Outcome}
-use Rattle.runs.specs.Histories.{Receiver, receiver, Receives, pair_accepted, pair_refused, receive_accepted, receive_refused}
-use Rattle.runs.specs.Readings.{receiver_as, receipt_of}
-use Rattle.runs.specs.declared.calls.ReceiverCall.{ReceiverCall}
+use Rattle.runs.specs.Calls.{came, pairing, receiving, paired, plain_at}
+use Rattle.runs.specs.Histories.{Receiver, receiver, Receives, pair_accepted, receive_accepted}
+use Rattle.runs.specs.Readings.{receiver_as}
 use Rattle.runs.proofs.Checks.{some_none, none_applied}
 
 module _ (c : Cipher) where

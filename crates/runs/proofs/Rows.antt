@@ -1,9 +1,9 @@
 -- Calls in a row: one more at the end, and fewer answers than calls.
-use Rattle.std.proofs.Common.{◌≡◌, ℕ, zero, suc, ◌+◌, ◌<◌, ◌≤◌, Bool, true, false, cond, List, [], ◌∷◌, ◌++◌, length, get_or, take, IfSome, is_ok, is_err, Some, None, Ok, Err, Option, Result, sym, refl, ap, ◌∙◌, subst, arith, length-append, length-take, MatchOption}
+use Rattle.std.proofs.Common.{◌≡◌, ℕ, zero, suc, ◌+◌, ◌<◌, ◌≤◌, Bool, true, false, cond, List, [], ◌∷◌, ◌++◌, length, get_or, take, IfSome, is_ok, is_err, Some, Ok, Err, Option, Result, sym, refl, ap, ◌∙◌, subst, arith, length-append, length-take, MatchOption}
 use Rattle.std.proofs.lemmas.List.{take_more}
 use Rattle.std.proofs.lemmas.Bool.{true≢false, false≢true}
 use Rattle.stream.specs.Ciphers.{Cipher}
-use Rattle.runs.specs.Calls.{Entry, made, Event, came}
+use Rattle.runs.specs.Calls.{made, came}
 use Rattle.runs.specs.Histories.{marks_of, Sender, Step, History, Receiver, Receives, Received}
 use Rattle.runs.specs.Readings.{call_of, answer_of, Turns, entries, receipt_of, outcome_of, Comings, events}
 use Rattle.runs.specs.declared.calls.SenderCall.{SenderCall}

@@ -1,7 +1,7 @@
 -- The sender's part of the promise, from sessions whose messages are framed one after the other.
-use Rattle.std.proofs.Common.{◌≡◌, ℕ, zero, suc, ◌+◌, ◌*◌, ◌<◌, ◌≤◌, List, [], ◌∷◌, ◌++◌, length, drop, sym, refl, ap, ◌∙◌, subst, ap₂, arith}
+use Rattle.std.proofs.Common.{◌≡◌, ℕ, zero, suc, ◌+◌, ◌*◌, ◌≤◌, List, [], ◌∷◌, ◌++◌, length, drop, sym, refl, ap, ◌∙◌, ap₂, arith}
 use Rattle.stream.specs.Bits.{first}
-use Rattle.stream.specs.Ciphers.{Cipher, later, cover, session_iv}
+use Rattle.stream.specs.Ciphers.{Cipher, later, cover}
 use Rattle.stream.proofs.Streams.{cover-append}
 use Rattle.runs.specs.Promises.{Message, Session, joined, plains, payloads, All, Distinct, Covered, covering}
 use Rattle.runs.proofs.Sessions.{Framed, Good, Rise}

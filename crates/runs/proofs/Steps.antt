@@ -1,16 +1,15 @@
 -- What the calls of the code promise, as steps of a history.
-use Rattle.std.proofs.Common.{◌≡◌, ℕ, ◌+◌, ◌*◌, ◌⊎◌, List, [], ◌∷◌, ◌++◌, length, take, drop, Some, None, sym, refl, ap, ◌∙◌, subst, ap₂, inl, inr, arith, take_at}
-use Rattle.stream.specs.Ciphers.{Cipher, later, cover, session_iv}
+use Rattle.std.proofs.Common.{◌≡◌, ℕ, ◌+◌, ◌*◌, ◌⊎◌, List, ◌++◌, length, take, drop, Some, sym, ap, ◌∙◌, subst, inl, inr, arith, take_at}
+use Rattle.stream.specs.Ciphers.{Cipher, later, session_iv}
 use Rattle.stream.proofs.Streams.{length-cover}
 use Rattle.marks.specs.Stores.{Raised, Wasted, Torn}
-use Rattle.link.specs.Frames.{frame}
-use Rattle.link.specs.Senders.{open_refusal, send_refusal, sent_frame}
+use Rattle.link.specs.Senders.{open_refusal, sent_frame}
 use Rattle.sender.specs.Calls.{Opened, Cut, Sent}
 use Rattle.sender.specs.declared.progress.Progress.{Progress}
 use Rattle.runs.specs.Readings.{call_of}
 use Rattle.runs.specs.declared.calls.SenderCall.{SenderCall}
-use Rattle.runs.specs.Calls.{Entry, Call, opening, torn_opening, sending, Answer, opened, torn, sent, refused, made}
-use Rattle.runs.specs.Histories.{Marks, mark, left, Sender, at_rest, in_session, Step, open_accepted, open_refused, torn_accepted, torn_refused, send_accepted, send_refused}
+use Rattle.runs.specs.Calls.{Entry, opening, torn_opening, sending, Answer, opened, torn, sent, refused, made}
+use Rattle.runs.specs.Histories.{Marks, mark, left, Sender, at_rest, in_session, Step, open_accepted, open_refused, torn_accepted, torn_refused, send_accepted}
 
 module _ {S : Type 0} (m l : S → ℕ) where
   -- the numbers of a store

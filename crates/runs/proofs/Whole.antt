@@ -1,5 +1,5 @@
 -- The promise, whole, from what the calls answered.
-use Rattle.std.proofs.Common.{◌≡◌, ℕ, ◌+◌, ◌≤◌, Bool, true, ◌&&◌, List, None, sym, ◌∙◌, subst}
+use Rattle.std.proofs.Common.{◌≡◌, ℕ, ◌+◌, ◌≤◌, Bool, ◌&&◌, List, None, subst}
 use Rattle.std.proofs.lemmas.Bool.{and_parts}
 use Rattle.runs.specs.Readings.{SenderRan, ReceiverRan}
 use Rattle.runs.specs.declared.calls.SenderCall.{SenderCall}

@@ -1,12 +1,12 @@
 -- What each call answers and leaves, by the definitions that the contracts of the calls name.
-use Rattle.std.specs.Prelude.{◌≡◌, ℕ, ◌+◌, ◌*◌, List, [], ◌∷◌, ◌++◌, length, Some, None, Option}
+use Rattle.std.specs.Prelude.{◌≡◌, ℕ, ◌+◌, ◌*◌, List, [], ◌∷◌, length, Some, None, Option}
 use Rattle.stream.specs.Ciphers.{Cipher, later, cover, session_iv}
 use Rattle.marks.specs.Stores.{Raised, Torn}
 use Rattle.link.specs.Frames.{frame_session, frame_place, frame_length, frame_payload}
 use Rattle.link.specs.Sessions.{state_at, pair_refusal}
 use Rattle.link.specs.Senders.{open_refusal, send_refusal, sent_frame}
 use Rattle.link.specs.Receivers.{Known, receive_refusal, distance_to, Stands}
-use Rattle.runs.specs.Calls.{Call, opening, torn_opening, sending, closing, power_cut, Answer, opened, torn, sent, rested, refused, not_admitted, Entry, made, Receipt, pairing, receiving, Outcome, paired, plain_at, turned_down, Event, came}
+use Rattle.runs.specs.Calls.{opening, torn_opening, sending, closing, power_cut, opened, torn, sent, rested, refused, not_admitted, Entry, made, pairing, receiving, paired, plain_at, turned_down, Event, came}
 
 -- The two numbers of a store.
 abbrev pub Marks : Type 0

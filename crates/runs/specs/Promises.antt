@@ -1,10 +1,10 @@
 -- The promise over whole runs, in the words of sessions, plains, payloads, keystream octets and frames.
-use Rattle.std.specs.Prelude.{◌≡◌, ℕ, ◌+◌, ◌≤◌, List, [], ◌∷◌, ◌++◌, length, ℤ, Some, None, Option, ◌≢◌}
+use Rattle.std.specs.Prelude.{◌≡◌, ℕ, ◌≤◌, List, [], ◌∷◌, ◌++◌, length, ℤ, Some, None, Option, ◌≢◌}
 use Rattle.stream.specs.Bits.{first}
 use Rattle.stream.specs.Ciphers.{Cipher, OneCipher, cover, session_iv}
 use Rattle.link.specs.Frames.{frame_payload}
 use Rattle.link.specs.Receivers.{Known}
-use Rattle.runs.specs.Calls.{Call, opening, torn_opening, sending, closing, power_cut, Answer, opened, torn, sent, rested, refused, not_admitted, Entry, made, Receipt, pairing, receiving, Outcome, paired, plain_at, turned_down, Event, came}
+use Rattle.runs.specs.Calls.{Call, opening, torn_opening, sending, closing, power_cut, opened, torn, sent, rested, refused, not_admitted, Entry, made, pairing, receiving, Outcome, paired, plain_at, turned_down, Event, came}
 
 -- An accepted send: the plain that it took and the frame that it wrote.
 pub record Message : Type 0 where

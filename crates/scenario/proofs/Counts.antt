@@ -1,5 +1,5 @@
 -- Words that are refused for their count, and the places of those that are read.
-use Rattle.std.proofs.Common.{◌≡◌, ℕ, ◌⊎◌, List, [], ◌∷◌, codes, sym, refl, ap, ◌∙◌, subst, inl, inr, ⊎_elim, arith}
+use Rattle.std.proofs.Common.{◌≡◌, ℕ, List, [], ◌∷◌, codes, sym, refl, ap, subst, inl, inr, ⊎_elim}
 use Rattle.scenario.specs.Grammar.{Kind, engine_kind, number_kind, octets_kind, word32_kind, fresh_kind, command_word, takes, OneOf, Allows, Fits, InPlace, ReadAs}
 use Rattle.scenario.specs.Says.{WordsRefused}
 use Rattle.scenario.specs.declared.command.Command.{Command}

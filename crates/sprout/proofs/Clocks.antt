@@ -3,7 +3,7 @@ use Rattle.std.proofs.Common.{◌≡◌, ℕ, ◌+◌, ◌<◌, Bool, false, eqb
 use Rattle.std.proofs.lemmas.Bool.{eqb-true, cond_both}
 use Rattle.stream.specs.Bits.{bit, first, packed, times}
 use Rattle.stream.specs.Ciphers.{later, stream}
-use Rattle.registers.specs.Polynomials.{Poly, ◌⊕◌}
+use Rattle.registers.specs.Polynomials.{Poly}
 use Rattle.registers.specs.Registers.{Registers, clock, value_at}
 use Rattle.sprout.specs.Sprout.{SproutState, sprout, next, counted, feedback, linear, nonlinear, round_key, output}
 

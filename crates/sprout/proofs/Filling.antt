@@ -1,5 +1,5 @@
 -- The registers that an IV fills.
-use Rattle.std.proofs.Common.{◌≡◌, ℕ, ◌+◌, ◌-◌, ◌*◌, ◌/◌, ◌%◌, ◌^◌, ◌<◌, ◌≤◌, Bool, true, false, List, [], ◌∷◌, ◌++◌, length, get_or, take, drop, replicate, sym, refl, ap, ◌∙◌, subst, ap₂, mod-lt, div-one, arith, length-append, length-drop, length-take, get_or-drop, take_all, get_or-take, ext_get_or, pow_pos}
+use Rattle.std.proofs.Common.{◌≡◌, ℕ, ◌+◌, ◌*◌, ◌/◌, ◌%◌, ◌^◌, ◌<◌, ◌≤◌, Bool, true, false, List, [], ◌∷◌, ◌++◌, length, get_or, take, drop, replicate, sym, ap, ◌∙◌, ap₂, mod-lt, div-one, arith, length-append, length-drop, length-take, get_or-drop, take_all, get_or-take, ext_get_or, pow_pos}
 use lib.Bits.{bit_and, bit_or, and_mask, or_shifted_r}
 use Rattle.stream.specs.Bits.{bit, bits, packed, octet_bits}
 use Rattle.stream.proofs.Packed.{length-bits, length-octet_bits, packed-append, packed-bits, bits-packed}

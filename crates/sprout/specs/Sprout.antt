@@ -1,6 +1,6 @@
 -- Sprout: registers of 40 bits, a key of 10 octets that stays in use, an IV of 9, a counter of the clocks modulo 80.
 use Rattle.std.specs.Prelude.{◌≡◌, ℕ, ◌+◌, ◌≤◌, Bool, true, false, cond, ◌||◌, T, List, [], ◌∷◌, ◌++◌, take, drop, replicate, ◌==◌, slice_index_or, slice_set, refl}
-use Rattle.std.proofs.Common.{ap, ap₂, arith, lit≤, get_or-set_other}
+use Rattle.std.proofs.Common.{ap, arith, lit≤, get_or-set_other}
 use Rattle.stream.specs.Bits.{bit, bits, octet_bits, octets_bit, times}
 use Rattle.stream.specs.Ciphers.{Cipher, Bounds}
 use Rattle.stream.specs.declared.figures.Figures.{Figures}

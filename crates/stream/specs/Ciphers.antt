@@ -1,5 +1,5 @@
 -- What an engine means: a cipher, its keystream, and covering octets with it.
-use Rattle.std.specs.Prelude.{◌≡◌, ℕ, zero, suc, ◌+◌, ◌*◌, ◌/◌, ◌%◌, ◌^◌, ◌≤◌, Bool, not, List, [], ◌∷◌, ◌++◌, length, take, drop, Option, ◌==◌, bit_xor, slice_set}
+use Rattle.std.specs.Prelude.{◌≡◌, ℕ, ◌+◌, ◌*◌, ◌/◌, ◌%◌, ◌≤◌, Bool, not, List, [], ◌∷◌, ◌++◌, length, take, drop, Option, ◌==◌, bit_xor, slice_set}
 use Rattle.stream.specs.Bits.{first, packed, times}
 use Rattle.stream.specs.Refusals.{first_refusal}
 use Rattle.stream.specs.declared.figures.Figures.{Figures}

@@ -1,6 +1,5 @@
 -- What each line of a scenario does to a plan.
-use Rattle.std.specs.Prelude.{◌≡◌, ℕ, ◌+◌, ◌-◌, ◌*◌, ◌<◌, ◌≤◌, ◌⊎◌, List, [], ◌∷◌, ◌++◌, length, replicate, vec_items, Vec, slice_index}
-use Rattle.std.specs.declared.alloc.Global.{Global}
+use Rattle.std.specs.Prelude.{◌≡◌, ℕ, ◌+◌, ◌-◌, ◌*◌, ◌<◌, ◌≤◌, List, [], ◌∷◌, ◌++◌, length, replicate, vec_items, slice_index}
 use Rattle.histories.specs.Calls.{Call, opening, torn_opening, sending, closing, power_cut}
 use Rattle.lent_runs.specs.Readings.{call_of}
 use Rattle.lent_runs.specs.declared.calls.SenderStep.{SenderStep}

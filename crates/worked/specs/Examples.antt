@@ -1,5 +1,5 @@
 -- Worked examples of the rules, each stated of the definitions that the contracts cite.
-use Rattle.std.specs.Prelude.{◌≡◌, ℕ, ◌+◌, min, Bool, true, false, List, [], ◌∷◌, replicate, negsuc, Some, None, Option, slice_index_or}
+use Rattle.std.specs.Prelude.{◌≡◌, ℕ, ◌+◌, min, Bool, true, false, List, [], ◌∷◌, replicate, negsuc, Some, None, slice_index_or}
 use Rattle.stream.specs.Ciphers.{session_iv, load_refusal}
 use Rattle.registers.specs.Registers.{Registers, value_at}
 use Rattle.grain128.specs.Family as family

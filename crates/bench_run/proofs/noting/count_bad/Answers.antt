@@ -1,8 +1,7 @@
-use Rattle.std.proofs.Common.{◌≡◌, get_or}
+use Rattle.std.proofs.Common.{get_or}
 use Rattle.transcript.proofs.Sums.{counted_yes, counted_no, summed_all}
 use Rattle.trial.specs.declared.plan.Planned.TheVariants.{NoStep}
 use Rattle.bench_run.specs.Rows.{is_bad}
-use Rattle.bench_run.specs.declared.note.Note.{Note}
 use Rattle.bench_run.specs.declared.note.Note.TheVariants.{Taken}
 use Rattle.bench_run.proofs.Lines.{itself}
 use Rattle.bench_run.proofs.noting.count_bad.Goals as goal

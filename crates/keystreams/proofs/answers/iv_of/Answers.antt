@@ -1,4 +1,4 @@
-use Rattle.std.proofs.Common.{◌≡◌, ◌+◌, ◌≤◌, length, sym, ap, ◌∙◌, arith}
+use Rattle.std.proofs.Common.{◌+◌, ◌≤◌, length, sym, ap, ◌∙◌, arith}
 use Rattle.stream.specs.Ciphers.{session_iv}
 use Rattle.keystreams.specs.Answers.{nonce_iv}
 use Rattle.keystreams.proofs.Kept.{session_kept}

@@ -1,4 +1,4 @@
-use Rattle.std.proofs.Common.{◌≡◌, ◌≤◌, ◌++◌, length, take, drop}
+use Rattle.std.proofs.Common.{◌≡◌, take}
 use Rattle.lent_runs.specs.Readings.{changed}
 use Rattle.lent_runs.proofs.comings.change_octets.Given as goal
 

@@ -1,6 +1,6 @@
 use Rattle.std.proofs.Common.{sym, refl, subst}
 use Rattle.stream.specs.Refusals.{number}
-use Rattle.receiver.specs.Receiving.{Pairs, holds}
+use Rattle.receiver.specs.Receiving.{holds}
 use Rattle.receiver.specs.declared.Receiver.{Receiver}
 use Rattle.histories.specs.Calls.{came, pairing, turned_down}
 use Rattle.histories.specs.Histories.{Receives, pair_refused}

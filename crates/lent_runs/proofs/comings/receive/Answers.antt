@@ -1,6 +1,6 @@
 use Rattle.std.proofs.Common.{length, sym, refl, subst}
 use Rattle.stream.specs.Refusals.{number}
-use Rattle.receiver.specs.Receiving.{Accepts, holds}
+use Rattle.receiver.specs.Receiving.{holds}
 use Rattle.receiver.specs.declared.Receiver.{Receiver}
 use Rattle.histories.specs.Calls.{came, receiving, turned_down}
 use Rattle.histories.specs.Histories.{Receives, receive_refused}

@@ -1,4 +1,4 @@
-use Rattle.lent_runs.specs.Readings.{Turned, resting_as, stage_as}
+use Rattle.lent_runs.specs.Readings.{Turned, stage_as}
 use Rattle.lent_runs.proofs.Rows.{half_more, half_all, turns_row}
 use Rattle.lent_runs.proofs.run.run_sender.Goals as goal
 

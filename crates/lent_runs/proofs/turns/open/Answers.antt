@@ -1,5 +1,4 @@
-use Rattle.std.proofs.Common.{ℕ, sym, refl, ap, subst}
-use Rattle.sender.specs.Calls.{Opened}
+use Rattle.std.proofs.Common.{sym, refl, ap, subst}
 use Rattle.sender.specs.declared.progress.Progress.{Progress}
 use Rattle.histories.specs.Calls.{made, opening, opened}
 use Rattle.histories.specs.Histories.{Step}

@@ -1,6 +1,5 @@
 use Rattle.std.proofs.Common.{sym, refl, subst}
 use Rattle.stream.specs.Refusals.{number}
-use Rattle.sender.specs.Calls.{Sent}
 use Rattle.sender.specs.declared.sending.Sending.{Sending}
 use Rattle.histories.specs.Calls.{made, sending, refused}
 use Rattle.histories.specs.Histories.{Step, send_refused}

@@ -1,5 +1,4 @@
 use Rattle.std.proofs.Common.{refl, ap}
-use Rattle.sender.specs.Calls.{Cut}
 use Rattle.lent_runs.proofs.Steps.{torn_step, torn_no_step}
 use Rattle.lent_runs.proofs.turns.torn_open.Goals as goal
 

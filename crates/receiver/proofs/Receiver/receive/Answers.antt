@@ -1,4 +1,4 @@
-use Rattle.std.proofs.Common.{◌≡◌, ℕ, ◌+◌, ◌-◌, List, ◌++◌, length, take, drop, ℤ, pos, ◌-ℤ◌, Some, Option, sym, refl, ap, ◌∙◌, ap₂, arith, length-drop, w32, SFits, rules}
+use Rattle.std.proofs.Common.{◌≡◌, ℕ, ◌+◌, List, ◌++◌, length, drop, ℤ, pos, ◌-ℤ◌, Some, Option, refl, ap, ◌∙◌, ap₂, arith, length-drop, w32, SFits, rules}
 use Rattle.std.proofs.lemmas.List.{take_rest}
 use Rattle.std.proofs.lemmas.Int.{to_z-of_z}
 use Rattle.stream.specs.Ciphers.{Cipher, cover}

@@ -1,4 +1,4 @@
-use Rattle.std.proofs.Common.{◌≡◌, ℕ, ◌+◌, ◌*◌, List, [], ◌∷◌, get_or, take, drop, sym, refl, ◌∙◌, arith, get_or-drop}
+use Rattle.std.proofs.Common.{◌≡◌, ℕ, ◌+◌, ◌*◌, List, [], ◌∷◌, get_or, take, drop, refl, ◌∙◌, arith, get_or-drop}
 use Rattle.link.specs.Frames.{octets_number}
 use Rattle.receiver.proofs.fields.parsed.Goals as goal
 

@@ -1,7 +1,5 @@
-use Rattle.std.proofs.Common.{◌≡◌, ℕ, ◌%◌, ◌^◌, ◌≤◌, min, sym, ap, ◌∙◌, ap₂, arith}
-use Rattle.stream.specs.Bits.{first, packed, times}
-use Rattle.registers.specs.Registers.{Shape, clock, held, value_at}
-use Rattle.registers.specs.Words.{window_of, word, moved_by}
+use Rattle.std.proofs.Common.{◌≡◌, ℕ, ◌≤◌, min, arith}
+use Rattle.registers.specs.Registers.{Shape}
 use Rattle.registers.proofs.Strides.{stepped_by, drawn_by, none_drawn, none_moved}
 use Rattle.registers.proofs.clocks.clocked.Goals as goal
 

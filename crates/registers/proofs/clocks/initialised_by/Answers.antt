@@ -1,8 +1,6 @@
-use Rattle.std.proofs.Common.{◌≡◌, ℕ, sym, refl, ap, ◌∙◌, ap₂, arith}
+use Rattle.std.proofs.Common.{refl, ap₂}
 use lib.Bits.{bit_xor}
-use Rattle.registers.specs.Polynomials.{Poly, ◌⊕◌}
 use Rattle.registers.specs.Registers.{Shape}
-use Rattle.registers.specs.Words.{word}
 use Rattle.registers.proofs.Values.{sum_within}
 use Rattle.registers.proofs.Strides.{stepped_by}
 use Rattle.registers.proofs.clocks.initialised_by.Goals as goal

@@ -1,4 +1,3 @@
-use Rattle.std.proofs.Common.{arith}
 use Rattle.registers.proofs.Masks.{masked, mask_whole}
 use Rattle.registers.proofs.clocks.kept.Goals as goal
 

@@ -1,4 +1,4 @@
-use Rattle.std.proofs.Common.{◌≡◌, ◌+◌, ◌-◌, ◌*◌, ◌/◌, ◌%◌, ◌^◌, ◌<◌, ap, ◌∙◌, subst, ap₂, arith}
+use Rattle.std.proofs.Common.{◌≡◌, ◌+◌, ◌-◌, ◌*◌, ◌/◌, ◌%◌, ◌^◌, ◌<◌, ◌∙◌, subst, ap₂, arith}
 use lib.Bits.{bit_or}
 use Rattle.registers.proofs.Masks.{stacked, moved-lt}
 use Rattle.registers.proofs.clocks.moved_by.Goals as goal

@@ -1,4 +1,4 @@
-use Rattle.std.proofs.Common.{◌≡◌, ◌/◌, ◌%◌, ◌^◌, ◌<◌, sym, arith}
+use Rattle.std.proofs.Common.{◌/◌, ◌^◌, ◌<◌, sym, arith}
 use lib.Bits.{and_mask}
 use lib.Pow.{shr_mod}
 use Rattle.registers.specs.Words.{window_of}

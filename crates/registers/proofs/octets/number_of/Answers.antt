@@ -1,4 +1,4 @@
-use Rattle.std.proofs.Common.{◌≡◌, ℕ, ◌-◌, ◌<◌, ◌≤◌, List, length, get_or, take, sym, refl, ap, ◌∙◌, arith, length-take, take_all, get_or-take}
+use Rattle.std.proofs.Common.{ℕ, ◌-◌, ◌<◌, List, get_or, take, refl, ap, ◌∙◌, arith, length-take, take_all, get_or-take}
 use Rattle.stream.specs.Bits.{octet_bits, packed}
 use Rattle.registers.proofs.Filling.{one-octet_more, take_min}
 use Rattle.registers.proofs.octets.number_of.Goals as goal

@@ -1,7 +1,7 @@
 use Rattle.std.proofs.Common.{◌≡◌, ℕ, List, length, take, vec_items, sym, ap, ◌∙◌, subst, arith}
 use Rattle.std.proofs.lemmas.List.{with_items_is}
 use Rattle.stream.specs.Refusals.{number}
-use Rattle.receiver.specs.Receiving.{Accepts, holds}
+use Rattle.receiver.specs.Receiving.{holds}
 use Rattle.receiver.specs.declared.Receiver.{Receiver}
 use Rattle.runs.specs.Calls.{came, receiving, plain_at, turned_down}
 use Rattle.runs.specs.Histories.{Receives, receive_refused}

@@ -1,4 +1,4 @@
-use Rattle.std.proofs.Common.{◌≡◌, ℕ, ap}
+use Rattle.std.proofs.Common.{ap}
 use Rattle.runs.specs.Histories.{at_rest}
 use Rattle.runs.specs.Readings.{receiver_as}
 use Rattle.runs.proofs.Rows.{turns_history, comings_received}

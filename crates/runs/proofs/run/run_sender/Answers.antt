@@ -1,4 +1,4 @@
-use Rattle.std.proofs.Common.{◌≡◌, ℕ, true, false, List, length, take, vec_items, sym, refl, ap, ◌∙◌, subst, arith}
+use Rattle.std.proofs.Common.{◌≡◌, vec_items, sym, ◌∙◌, subst, arith}
 use Rattle.std.proofs.lemmas.Bool.{false≢true}
 use Rattle.runs.specs.Readings.{Turns, resting_as, stage_as}
 use Rattle.runs.proofs.Rows.{turns_all, turns_next, push_failed, push_done}

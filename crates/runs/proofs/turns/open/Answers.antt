@@ -1,5 +1,4 @@
-use Rattle.std.proofs.Common.{ℕ, sym, ap, subst}
-use Rattle.sender.specs.Calls.{Opened}
+use Rattle.std.proofs.Common.{sym, ap, subst}
 use Rattle.sender.specs.declared.progress.Progress.{Progress}
 use Rattle.runs.specs.Calls.{made, opening, opened}
 use Rattle.runs.specs.Histories.{Step}

@@ -1,7 +1,6 @@
 use Rattle.std.proofs.Common.{◌≡◌, ℕ, List, length, take, vec_items, sym, ap, ◌∙◌, subst, arith}
 use Rattle.std.proofs.lemmas.List.{with_items_is}
 use Rattle.stream.specs.Refusals.{number}
-use Rattle.sender.specs.Calls.{Sent}
 use Rattle.sender.specs.declared.sending.Sending.{Sending}
 use Rattle.runs.specs.Calls.{made, sending, sent, refused}
 use Rattle.runs.specs.Histories.{Step, send_refused}

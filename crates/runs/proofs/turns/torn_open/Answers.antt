@@ -1,5 +1,4 @@
 use Rattle.std.proofs.Common.{ap}
-use Rattle.sender.specs.Calls.{Cut}
 use Rattle.runs.proofs.Steps.{torn_step, torn_no_step}
 use Rattle.runs.proofs.turns.torn_open.Goals as goal
 

@@ -1,4 +1,4 @@
-use Rattle.std.proofs.Common.{◌≡◌, sym, refl, ap, ◌∙◌, add-one}
+use Rattle.std.proofs.Common.{sym, refl, ap, ◌∙◌, add-one}
 use Rattle.stream.specs.Bits.{times}
 use Rattle.registers.proofs.Strides.{times-suc}
 use Rattle.sprout.specs.Sprout.{SproutState, initial, state_of}

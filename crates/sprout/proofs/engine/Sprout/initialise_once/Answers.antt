@@ -1,4 +1,4 @@
-use Rattle.std.proofs.Common.{◌≡◌, ap, ◌∙◌}
+use Rattle.std.proofs.Common.{ap, ◌∙◌}
 use Rattle.registers.specs.Polynomials.{◌⊕◌}
 use Rattle.registers.specs.Registers.{Registers, clock, held_in}
 use Rattle.sprout.specs.Sprout.{linear, output}

@@ -1,5 +1,5 @@
 use Rattle.std.proofs.Common.{◌≡◌, min, ap, ◌∙◌, arith}
-use Rattle.registers.specs.Registers.{Registers, clock, held_in}
+use Rattle.registers.specs.Registers.{clock}
 use Rattle.registers.proofs.Strides.{none_drawn, none_moved}
 use Rattle.sprout.specs.Sprout.{SproutState, linear, state_of}
 use Rattle.sprout.proofs.Clocks.{same-feedback, once, parts_same, one_drawn, one-moved}

@@ -1,5 +1,5 @@
-use Rattle.std.proofs.Common.{refl, arith}
-use Rattle.sprout.specs.Sprout.{SproutState, state_of}
+use Rattle.std.proofs.Common.{refl}
+use Rattle.sprout.specs.Sprout.{state_of}
 use Rattle.sprout.proofs.Clocks.{same-feedback, state-before}
 use Rattle.sprout.proofs.engine.SproutReversible.back.Goals as goal
 
