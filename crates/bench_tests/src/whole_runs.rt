@@ -61,10 +61,11 @@ fn check_receipt(
     step: Option<&ReceiverStep>,
     answer: Option<ReceiverAnswer>,
     out: &[u8],
+    at: &str,
 ) -> Result<(), Fail> {
     let step = step.ok_or("no such step")?;
-    assert_eq!(rt; step.answer, answer);
-    assert_eq!(rt; step.out.as_slice(), out);
+    assert_eq!(rt; step.answer, answer, "the answer: {at}");
+    assert_eq!(rt; step.out.as_slice(), out, "the buffer: {at}");
     Ok(())
 }
 
@@ -95,10 +96,22 @@ fn a_run_makes_every_call_and_delivers_its_frames(rt: HostRuntime) -> Result<(),
     assert_eq!(rt; (send.mark, send.left), (1, 7), "the numbers of the store");
     let paired = Some(ReceiverAnswer::Paired);
     let refused = Some(ReceiverAnswer::Declined(Refusal::BadFrame));
-    check_receipt(&rt, receipts.get(0), paired, b"").note("pair")?;
-    check_receipt(&rt, receipts.get(1), None, &[0xee; 6]).note("nothing sent")?;
-    check_receipt(&rt, receipts.get(2), opened(0), b"12 up\xee").note("the frame")?;
-    check_receipt(&rt, receipts.get(3), opened(-5), b"02 up\xee").note("one payload bit")?;
-    check_receipt(&rt, receipts.get(4), refused, &[0xee; 6]).note("the length altered")?;
-    check_receipt(&rt, receipts.get(5), None, &[0xee; 6]).note("past the last call")
+    check_receipt(&rt, receipts.get(0), paired, b"", "pair")?;
+    check_receipt(&rt, receipts.get(1), None, &[0xee; 6], "nothing sent")?;
+    check_receipt(&rt, receipts.get(2), opened(0), b"12 up\xee", "the frame")?;
+    check_receipt(
+        &rt,
+        receipts.get(3),
+        opened(-5),
+        b"02 up\xee",
+        "one payload bit",
+    )?;
+    check_receipt(
+        &rt,
+        receipts.get(4),
+        refused,
+        &[0xee; 6],
+        "the length altered",
+    )?;
+    check_receipt(&rt, receipts.get(5), None, &[0xee; 6], "past the last call")
 }

@@ -7,6 +7,7 @@ use grain128::serial128a::*;
 use sprout::engine::*;
 use std::alloc::Global;
 use std::process::Abort;
+use std::test::Fail;
 use stream::draws::cover;
 use stream::engine::Engine;
 use stream::refusal::*;

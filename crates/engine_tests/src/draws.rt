@@ -6,6 +6,7 @@ use grain128::serial128::*;
 use grain128::serial128a::*;
 use sprout::engine::*;
 use std::process::Abort;
+use std::test::Fail;
 use stream::draws::{backward, forward, take_bits};
 use stream::engine::{Engine, Reversible};
 
@@ -78,10 +79,11 @@ fn comes_back<E: Reversible + Drop>(
     for _ in 0..10_000u32 {
         engine.back();
     }
-    agree(rt, &mut engine, &mut still).note("by steps")?;
+    agree(rt, &mut engine, &mut still, "by steps");
     forward(&mut engine, 1250);
     backward(&mut engine, 1250);
-    agree(rt, &mut engine, &mut still).note("by octets")
+    agree(rt, &mut engine, &mut still, "by octets");
+    Ok(())
 }
 
 #[test]

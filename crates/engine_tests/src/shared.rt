@@ -17,18 +17,13 @@ pub fn start<E: Engine>(engine: &mut E) -> Result<(), Fail> {
     Ok(())
 }
 
-/// Holds the next 256 bits of two engines against each other.
-pub fn agree<E: Engine, F: Engine>(
-    rt: &impl Abort,
-    one: &mut E,
-    other: &mut F,
-) -> Result<(), Fail> {
+/// Holds the next 256 bits of two engines against each other; `at` says where.
+pub fn agree<E: Engine, F: Engine>(rt: &impl Abort, one: &mut E, other: &mut F, at: &str) {
     for _ in 0..8u32 {
         assert_eq!(rt;
             take_bits(one, 32),
             take_bits(other, 32),
-            "the engines differ"
+            "the engines differ: {at}"
         );
     }
-    Ok(())
 }

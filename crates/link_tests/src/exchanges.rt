@@ -34,14 +34,15 @@ fn send_all<E: Engine, S: MarkStore>(
     rt: &impl Abort,
     sender: &mut Sending<E, S>,
     frames: &mut [[u8; 16]; 3],
+    at: &str,
 ) {
     for i in 0..3usize {
         assert_eq!(rt;
             sender.send(&PLAINS[i], &mut frames[i]),
             Ok(15),
-            "a frame's size"
+            "a frame's size, {at}"
         );
-        assert_eq!(rt; frames[i][15], 0, "past the frame");
+        assert_eq!(rt; frames[i][15], 0, "past the frame, {at}");
     }
 }
 
@@ -51,14 +52,15 @@ fn receive_all<F: Reversible>(
     receiver: &mut Receiver<F>,
     frames: &[[u8; 16]; 3],
     order: [usize; 4],
+    at: &str,
 ) -> Result<(), Fail> {
     for i in order {
         assert!(rt; i < 3);
         let mut plain = [0; 6];
         let received = receiver.receive(&frames[i][0..15], &mut plain)?;
-        assert_eq!(rt; received.length, 5, "the length");
-        assert_eq!(rt; &plain[0..5], &PLAINS[i][0..5], "the plain");
-        assert_eq!(rt; plain[5], 0, "past the plain");
+        assert_eq!(rt; received.length, 5, "the length, {at}");
+        assert_eq!(rt; &plain[0..5], &PLAINS[i][0..5], "the plain, {at}");
+        assert_eq!(rt; plain[5], 0, "past the plain, {at}");
     }
     Ok(())
 }
@@ -69,17 +71,18 @@ fn exchange<E: Engine + Drop, S: MarkStore + Drop, F: Reversible + Drop>(
     engine: E,
     store: S,
     other: F,
+    at: &str,
 ) -> Result<(), Fail> {
     let ceiling = E::figures().ceiling;
     let mut frames = [[0; 16]; 3];
     match Resting::new(engine, store).open(key::<E>(), label::<E>(), ceiling) {
-        Ok(mut sender) => send_all(rt, &mut sender, &mut frames),
+        Ok(mut sender) => send_all(rt, &mut sender, &mut frames, at),
         Err(_) => return Err(Fail::new("the open is refused")),
     }
     let mut receiver = Receiver::new(other);
     receiver.pair(key::<F>(), label::<F>(), ceiling)?;
     for order in ORDERS {
-        receive_all(rt, &mut receiver, &frames, order)?;
+        receive_all(rt, &mut receiver, &frames, order, at)?;
     }
     Ok(())
 }
@@ -93,10 +96,16 @@ fn over_both<E: Engine + Drop, F: Reversible + Drop>(
     another: F,
 ) -> Result<(), Fail> {
     let mut octets = [0xff; 2];
-    exchange(rt, engine, Strip::new(&mut octets), other).note("over the strip")?;
+    exchange(rt, engine, Strip::new(&mut octets), other, "over the strip")?;
     assert_eq!(rt; octets, [0xfe, 0xff], "the strip is raised once");
     let mut words = [0xffff_ffff; 4];
-    exchange(rt, again, Column::new(&mut words), another).note("over the column")?;
+    exchange(
+        rt,
+        again,
+        Column::new(&mut words),
+        another,
+        "over the column",
+    )?;
     assert_eq!(rt;
         words,
         [1, 0xffff_fffe, 0xffff_ffff, 0xffff_ffff],
