@@ -1,5 +1,5 @@
 -- Octets written as hexadecimal digits, two to an octet, the high digit first.
--- `digitValue c` is the value of the digit c, from 0 to 9, then of a to z or A to Z, and 36 where c is none of these:
+-- `digit_value c` is the value of the digit c, from 0 to 9, then of a to z or A to Z, and 36 where c is none of these:
 -- c is a hexadecimal digit where that is below 16.
 use Rattle.std.specs.Prelude.{◌≡◌, ℕ, ◌+◌, ◌*◌, ◌%◌, ◌<◌, ◌≤◌, List, [], ◌∷◌, ◌++◌, length, codes, decimal, slice_index}
 use Rattle.std.specs.Char.{digit_value}

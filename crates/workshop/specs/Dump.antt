@@ -1,5 +1,5 @@
 -- Octets written out as text: as hexadecimal digits, and as the lines of a dump.
--- `digitChar d` is the digit of the value d, in lower case, and `joined f xs` is f of each of xs, one after the other.
+-- `digit_char d` is the digit of the value d, in lower case, and `flat_map f xs` is f of each of xs, one after the other.
 use Rattle.std.specs.Prelude.{ℕ, ◌+◌, ◌*◌, ◌/◌, ◌%◌, min, List, [], ◌∷◌, ◌++◌, length, take, drop}
 use Rattle.std.specs.List.{range_with_len, flat_map}
 use Rattle.std.specs.Char.{digit_char}

@@ -1,5 +1,5 @@
 -- The words of a text: white space stands between them, and a '#' with what follows it on its line is a comment.
--- `decodes bs` is the characters of the text bs, `encode c` the bytes of the character c, and `white c` says that c is white space.
+-- `chars bs` is the characters of the text bs, `encode c` the bytes of the character c, and `is_whitespace c` says that c is white space.
 use Rattle.std.specs.Prelude.{ℕ, Bool, true, false, cond, not, List, [], ◌∷◌, ◌++◌, map, vec_items, string_bytes, ◌==◌}
 use Rattle.std.proofs.Math.Utf8.{encode}
 use Rattle.std.specs.Char.{is_whitespace}
