@@ -4,3 +4,5 @@
 mod covering;
 mod links;
 mod stores;
+#[cfg(test)]
+mod tests;
