@@ -41,12 +41,10 @@ pub fn cover<E: Engine>(engine: &mut E, octets: &mut [u8])
     ensures covered { octets.new ≡ covering E.cipher (E.state engine.old) octets.old }
     ensures moves { E.state engine.new ≡ later E.cipher (8 * length octets.old) (E.state engine.old) }
 {
-    let mut done = 0;
-    while done < octets.len() {
-        let count = (octets.len() - done).min(4);
-        let word = take_bits(engine, 8 * count as u32);
-        mix(&mut octets[done..done + count], word);
-        done += count;
+    for start in (0..octets.len()).step_by(4) {
+        let end = octets.len().min(start + 4);
+        let word = take_bits(engine, 8 * (end - start) as u32);
+        mix(&mut octets[start..end], word);
     }
 }
 

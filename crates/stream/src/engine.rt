@@ -1,9 +1,8 @@
 //! The two interfaces of an engine.
 ghost use Rattle.std.specs.Prelude.{◌≡◌, ℕ, min, Some, None, MatchResult};
-ghost use Rattle.std.specs.Option.{option_map};
 ghost use Rattle.stream.specs.Bits.{packed};
 ghost use Rattle.stream.specs.Ciphers.{Cipher, later, stream, load_refusal};
-ghost use Rattle.stream.specs.Refusals.{number};
+ghost use Rattle.stream.specs.Refusals.{Checked, number};
 
 use crate::figures::Figures;
 use crate::refusal::Refusal;
@@ -13,6 +12,19 @@ pub trait Engine {
     ghost cipher: { Cipher };
 
     ghost state: { Self → cipher.State };
+
+    ghost KEY_OCTETS: { ℕ };
+
+    ghost IV_OCTETS: { ℕ };
+
+    ghost LABEL_OCTETS: { ℕ };
+
+    ghost STRIDE: { ℕ };
+
+    ghost CEILING: { ℕ };
+
+    // the five constants are the cipher's figures
+    ghost constants: { cipher.figures ≡ record { key = KEY_OCTETS; iv = IV_OCTETS; label = LABEL_OCTETS; stride = STRIDE; ceiling = CEILING } };
 
     /// Octets of a key.
     const KEY_OCTETS: usize;
@@ -27,11 +39,20 @@ pub trait Engine {
 
     /// The figures of the cipher at this engine's stride: the five constants.
     fn figures() -> Figures
-        ensures { result ≡ cipher.figures };
+        ensures { result ≡ cipher.figures }
+    {
+        Figures {
+            key: Self::KEY_OCTETS,
+            iv: Self::IV_OCTETS,
+            label: Self::LABEL_OCTETS,
+            stride: Self::STRIDE,
+            ceiling: Self::CEILING,
+        }
+    }
 
-    /// The refusal that `load` would answer, if any; nothing is loaded.
-    fn refusal(key: &[u8], iv: &[u8]) -> Option<Refusal>
-        ensures { option_map number result ≡ load_refusal cipher key.now iv.now };
+    /// Whether `load` would accept a key and an IV, and else the refusal that it would answer; nothing is loaded.
+    fn check(key: &[u8], iv: &[u8]) -> Result<(), Refusal>
+        ensures { Checked (load_refusal cipher key.now iv.now) result };
 
     /// Sets the start state for a key and an IV. Refused with 1, 2 or 3, the first that applies, it leaves the engine as it was.
     fn load(&mut self, key: &[u8], iv: &[u8]) -> Result<(), Refusal>

@@ -4,6 +4,5 @@
 pub mod draws;
 pub mod engine;
 pub mod figures;
-pub mod loading;
 pub mod refusal;
 pub mod session;

@@ -1,5 +1,5 @@
-use Rattle.std.proofs.Common.{◌≡◌, ℕ, ◌+◌, ◌-◌, ◌*◌, ◌/◌, ◌%◌, ◌^◌, ◌<◌, ◌≤◌, List, ◌++◌, length, get_or, take, drop, sym, refl, ap, ◌∙◌, ap₂, append_assoc, append-nil, arith, length-drop, take-append-drop, length-take, take_all, drop-drop, ext_get_or}
-use borrow.Rule.Slice.PartMut.{put_mid}
+use Rattle.std.proofs.Common.{◌≡◌, ℕ, ◌+◌, ◌-◌, ◌*◌, ◌/◌, ◌%◌, ◌^◌, ◌<◌, ◌≤◌, min, List, ◌++◌, length, get_or, take, drop, sym, refl, ap, ◌∙◌, ap₂, append_assoc, append-nil, arith, length-drop, take-append-drop, length-take, take_all, drop-drop, ext_get_or}
+use borrow.Rule.Slice.PartMut.{put_mid, same_len_mid}
 use lib.Bits.{bit_xor}
 use Rattle.std.proofs.lemmas.List.{drop_all}
 use Rattle.std.proofs.lemmas.Slice.{take-put_mid, drop-put_mid}
@@ -55,29 +55,39 @@ all_covered : (c : Cipher) (s : c.State) (xs : List ℕ) (n : ℕ) → length xs
 unfolding cover
 all_covered c s xs n h = rw (take_all, drop_all) (append-nil xs)
 
-pub loop-done-init : goal.loop-done-init
-loop-done-init g c = (omega arith, refl, sym (later-zero g.E.Engine.cipher 0 _ refl))
+pub loop-start-init : goal.loop-start-init
+loop-start-init g c = (refl, sym (later-zero g.E.Engine.cipher (8 * min 0 (length c.args.octets.now)) _ (omega arith)))
 
-pub loop-done-preserved : goal.loop-done-preserved
-loop-done-preserved g c =
+pub loop-start-preserved : goal.loop-start-preserved
+loop-start-preserved g c =
     let cipher = g.E.Engine.cipher in
     let start = g.E.Engine.state c.args.engine.now in
-    let inv = c.loop-done.invariant in
+    let inv = c.loop-start.invariant in
+    let same = c.loop-start.auto.octets in
     let word = c.take_bits-word.ensures in (
-      omega arith,
-      part_covered cipher _ _ c.loop-done.octets _ _ _ _ _ _ (omega arith) (omega arith) (omega arith)
+      part_covered cipher _ _ c.loop-start.octets _ _ _ _ _ _ (omega arith) (omega arith) (omega arith)
           word.taken word.moves c.mix.auto.octets c.mix.ensures
-          ∙ inv.1,
-      later_more cipher start _ _ _ _ _ inv.2 word.moves (omega arith),
+          ∙ inv.0,
+      later_more cipher start _ _ _ _ _ inv.1 word.moves (omega arith),
     )
 
-pub returns : goal.returns
-returns g c =
+pub returns-clause-covered : goal.returns-clause-covered
+returns-clause-covered g c =
+    sym (all_covered g.E.Engine.cipher (g.E.Engine.state c.loop-start.engine) c.loop-start.octets c.loop-start.start (omega arith))
+    ∙ c.loop-start.invariant.0
+
+pub returns-2-clause-covered : goal.returns-2-clause-covered
+returns-2-clause-covered g c =
     let cipher = g.E.Engine.cipher in
-    let start = g.E.Engine.state c.args.engine.now in
-    let inv = c.loop-done.invariant in
-    let all : 8 * c.loop-done.done ≡ 8 * length c.args.octets.now = omega arith in
-    record {
-      covered = sym (all_covered cipher _ _ _ c.loop-done-test.false) ∙ inv.1;
-      moves = inv.2 ∙ ap (λ n. later cipher n start) all;
-    }
+    let word = c.take_bits-word.ensures in
+    let same = c.loop-start.auto.octets in
+    let whole = part_covered cipher _ _ c.loop-start.octets _ _ _ c.min-end.result _ _ (omega arith) (omega arith) (omega arith)
+    word.taken word.moves c.mix.auto.octets c.mix.ensures
+    ∙ c.loop-start.invariant.0 in
+    let size = same_len_mid _ _ c.loop-start.octets _ c.mix.auto.octets in
+    sym (all_covered cipher _ _ c.min-end.result (omega (arith, size))) ∙ whole
+
+pub returns-2-clause-moves : goal.returns-2-clause-moves
+returns-2-clause-moves g c =
+    let same = c.loop-start.auto.octets in
+    later_more g.E.Engine.cipher (g.E.Engine.state c.args.engine.now) _ _ _ _ _ c.loop-start.invariant.1 c.take_bits-word.ensures.moves (omega arith)
