@@ -1,8 +1,8 @@
 -- Lines in a row: what becomes of them one by one, and their rows.
 use Rattle.std.proofs.Common.{◌≡◌, ℕ, zero, suc, ◌+◌, ◌<◌, ◌≤◌, min, List, [], ◌∷◌, ◌++◌, length, get_or, take, drop, string_bytes, codes, String, sym, refl, ap, ◌∙◌, subst, arith, length-drop}
 use Rattle.std.proofs.lemmas.List.{append_assoc, append-nil, drop_more, get_or_default, take_more, take_all}
-use Rattle.lent_runs.specs.declared.calls.SenderStep.{SenderStep}
-use Rattle.lent_runs.specs.declared.calls.ReceiverStep.{ReceiverStep}
+use Rattle.runs.specs.declared.calls.SenderStep.{SenderStep}
+use Rattle.runs.specs.declared.calls.ReceiverStep.{ReceiverStep}
 use Rattle.transcript.specs.Texts.{sender_text, receiver_text}
 use Rattle.stream.specs.Ciphers.{Cipher}
 use Rattle.trial.specs.Performed.{Performed}

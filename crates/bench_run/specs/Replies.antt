@@ -1,8 +1,8 @@
 -- What the bench makes of the lines of a scenario.
 use Rattle.std.specs.Prelude.{◌≡◌, List, [], ◌∷◌, ◌++◌, vec_items, string_bytes, count_by, String}
 use Rattle.trial.specs.Named.{cipher_of}
-use Rattle.lent_runs.specs.declared.calls.SenderStep.{SenderStep}
-use Rattle.lent_runs.specs.declared.calls.ReceiverStep.{ReceiverStep}
+use Rattle.runs.specs.declared.calls.SenderStep.{SenderStep}
+use Rattle.runs.specs.declared.calls.ReceiverStep.{ReceiverStep}
 use Rattle.transcript.specs.Texts.{tally_text}
 use Rattle.transcript.specs.Totals.{tally_of}
 use Rattle.trial.specs.Performed.{Performed}

@@ -1,7 +1,7 @@
 -- The rows of a transcript: each line of the scenario with its number, counted from 1, and with what it answered.
 use Rattle.std.specs.Prelude.{ℕ, zero, suc, ◌+◌, Bool, true, false, List, [], ◌∷◌, ◌++◌, string_bytes, codes, decimal, String}
-use Rattle.lent_runs.specs.declared.calls.SenderStep.{SenderStep}
-use Rattle.lent_runs.specs.declared.calls.ReceiverStep.{ReceiverStep}
+use Rattle.runs.specs.declared.calls.SenderStep.{SenderStep}
+use Rattle.runs.specs.declared.calls.ReceiverStep.{ReceiverStep}
 use Rattle.scenario.specs.Messages.{line_fault_text}
 use Rattle.transcript.specs.Texts.{sender_text, receiver_text}
 use Rattle.trial.specs.declared.plan.PlanFault.{PlanFault}

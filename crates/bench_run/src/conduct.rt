@@ -6,7 +6,7 @@ use crate::note::Note;
 use crate::noting::{count_bad, note_lines};
 use crate::reply::Reply;
 use crate::rows::rows_text;
-use lent_runs::calls::{ReceiverStep, SenderStep};
+use runs::calls::{ReceiverStep, SenderStep};
 use std::alloc::{AllocError, Global};
 use transcript::counts::tally;
 use transcript::text::tally_text;

@@ -3,7 +3,7 @@ ghost use Rattle.std.specs.Prelude.{◌≡◌, ◌++◌, IfOk, string_bytes, cod
 ghost use Rattle.bench_run.specs.Rows.{answer_text, call_text, plan_fault_text, receipt_text, row_text, rows_text, step_text};
 
 use crate::note::Note;
-use lent_runs::calls::{ReceiverStep, SenderStep};
+use runs::calls::{ReceiverStep, SenderStep};
 use std::alloc::{AllocError, Global};
 use transcript::text::{receiver_text, sender_text};
 use trial::plan::{PlanFault, Planned};

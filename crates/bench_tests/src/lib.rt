@@ -3,7 +3,3 @@
 
 #[cfg(test)]
 mod bad_lines;
-#[cfg(test)]
-mod shared;
-#[cfg(test)]
-mod whole_runs;

@@ -1,15 +1,17 @@
 -- What the calls of the code promise, as steps of a history.
 use Rattle.std.proofs.Common.{◌≡◌, ℕ, ◌+◌, ◌*◌, ◌⊎◌, List, ◌++◌, length, take, drop, Some, sym, ap, ◌∙◌, subst, inl, inr, arith, take_at}
+use Rattle.std.proofs.lemmas.List.{drop_at}
 use Rattle.stream.specs.Ciphers.{Cipher, later, session_iv}
 use Rattle.stream.proofs.Streams.{length-cover}
 use Rattle.marks.specs.Stores.{Raised, Wasted, Torn}
 use Rattle.link.specs.Senders.{open_refusal, sent_frame}
 use Rattle.sender.specs.Calls.{Opened, Cut, Sent}
 use Rattle.sender.specs.declared.progress.Progress.{Progress}
-use Rattle.runs.specs.Readings.{call_of}
+use Rattle.runs.specs.Readings.{Acted, Beyond}
+use Rattle.runs.specs.declared.calls.SenderAnswer.{SenderAnswer}
 use Rattle.runs.specs.declared.calls.SenderCall.{SenderCall}
-use Rattle.runs.specs.Calls.{Entry, opening, torn_opening, sending, Answer, opened, torn, sent, refused, made}
-use Rattle.runs.specs.Histories.{Marks, mark, left, Sender, at_rest, in_session, Step, open_accepted, open_refused, torn_accepted, torn_refused, send_accepted}
+use Rattle.histories.specs.Calls.{Entry, opening, torn_opening, sending, opened, torn, sent, refused, made}
+use Rattle.histories.specs.Histories.{Marks, mark, left, Sender, at_rest, in_session, Step, open_accepted, open_refused, torn_accepted, torn_refused, send_accepted}
 
 module _ {S : Type 0} (m l : S → ℕ) where
   -- the numbers of a store
@@ -47,19 +49,25 @@ module _ {S : Type 0} (m l : S → ℕ) where
         take_at (sent_frame c number place x plain) rest n (omega (arith, length-cover c x plain))
 
     pub send_step : (s t : S) (p q : Progress) (x y : c.State) (plain before after items : List ℕ) (n : ℕ) → Sent c p q x y plain before after n → t ≡ s → items ≡ take n after
-        → Step c w (in_session (of s) p.session p.place p.allowance x) (made (sending plain (length before)) (sent items))
+        → Step c w (in_session (of s) p.session p.place p.allowance x) (made (sending plain (length before)) (sent n items))
         (in_session (of t) q.session q.place q.allowance y)
     send_step s t p q x y plain before after items n o store_is items-are =
         let f : List ℕ = sent_frame c p.session p.place x plain in
-        let To : List ℕ × Marks × ℕ × ℕ × ℕ × c.State → Type 0 =
-        λ v. Step c w (in_session (of s) p.session p.place p.allowance x) (made (sending plain (length before)) (sent v.0))
+        let To : List ℕ × Marks × ℕ × ℕ × ℕ × c.State × ℕ → Type 0 =
+        λ v. Step c w (in_session (of s) p.session p.place p.allowance x) (made (sending plain (length before)) (sent v.6 v.0))
         (in_session v.1 v.2 v.3 v.4 v.5) in
         let framed : items ≡ f =
         items-are ∙ ap (take n) o.written ∙ cut_frame p.session p.place x plain (drop n before) n o.length_is in
-        let same : ◌≡◌ {A = List ℕ × Marks × ℕ × ℕ × ℕ × c.State} (f, of s, p.session, p.place + length plain, p.allowance, later c (8 * length plain) x)
-        (items, of t, q.session, q.place, q.allowance, y) =
-        λ i. (sym framed i, ap of (sym store_is) i, sym o.session_is i, sym o.place_is i, sym o.allowance_is i, sym o.moves i) in
+        let same : ◌≡◌ {A = List ℕ × Marks × ℕ × ℕ × ℕ × c.State × ℕ} (f, of s, p.session, p.place + length plain, p.allowance, later c (8 * length plain) x, 10 + length plain)
+        (items, of t, q.session, q.place, q.allowance, y, n) =
+        λ i. (sym framed i, ap of (sym store_is) i, sym o.session_is i, sym o.place_is i, sym o.allowance_is i, sym o.moves i, sym o.length_is i) in
         subst To same (send_accepted o.unrefused)
+
+    -- beyond the frame the buffer is as it was
+    pub send_beyond : (p q : Progress) (x y : c.State) (plain before after : List ℕ) (n : ℕ) → Sent c p q x y plain before after n → length after ≡ length before → Beyond n before after
+    send_beyond p q x y plain before after n o room =
+        let f : List ℕ = sent_frame c p.session p.place x plain in
+        record { room = room; rest = ap (drop n) o.written ∙ drop_at f (drop n before) n (omega (arith, length-cover c x plain, o.length_is)) }
 
     -- refused calls leave the sender
     pub open_no_step : (key label : List ℕ) (allowance n : ℕ) (s t : S) → open_refusal c (l s) key label allowance ≡ Some n → t ≡ s
@@ -72,9 +80,14 @@ module _ {S : Type 0} (m l : S → ℕ) where
     torn_no_step key label allowance writes junk n s t r e =
         subst (λ v. Step c w (at_rest (of s)) (made (torn_opening key label allowance writes junk) (refused n)) (at_rest (of v))) (sym e) (torn_refused r)
 
--- a step of a call that is known
-pub for_call : (c : Cipher) (w : ℕ) (s t : Sender c) (a : Answer) (call known : SenderCall) → call ≡ known → Step c w s (made (call_of known) a) t → Step c w s (made (call_of call) a) t
-for_call c w s t a call known e step = subst (λ v. Step c w s (made (call_of v) a) t) (sym e) step
+-- a buffer that a call leaves as it was
+pub unwritten : (n : ℕ) (before after : List ℕ) → after ≡ before → Beyond n before after
+unwritten n before after same = record { room = ap length same; rest = ap (drop n) same }
+
+-- what a call did that is known
+pub for_call : (c : Cipher) (w : ℕ) (s t : Sender c) (before after : List ℕ) (a : SenderAnswer) (call known : SenderCall) → call ≡ known
+    → Acted c w s known before after a t → Acted c w s call before after a t
+for_call c w s t before after a call known e did = subst (λ v. Acted c w s v before after a t) (sym e) did
 
 -- a step to a sender at rest over the same store
 pub same_store : {S : Type 0} (m l : S → ℕ) (c : Cipher) (w : ℕ) (s : Sender c) (e : Entry) (u v : S) → v ≡ u → Step c w s e (at_rest (m u, l u)) → Step c w s e (at_rest (m v, l v))

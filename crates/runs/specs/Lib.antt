@@ -1,4 +1,1 @@
-pub mod Calls
-pub mod Histories
-pub mod Promises
 pub mod Readings

@@ -1,9 +1,13 @@
-//! Calls as data, and their answers.
+//! Calls as data, each with the buffer that it is lent and what it answered.
+ghost use Rattle.std.specs.Prelude.{◌≡◌, None};
+ghost use Rattle.runs.specs.declared.calls.SenderAnswer.TheVariants.{NotAdmitted};
+
+use crate::size::FrameSize;
 use receiver::Received;
 use stream::refusal::Refusal;
 
 /// A call on a sender.
-#[derive(Debug, Drop)]
+#[derive(Drop)]
 pub enum SenderCall {
     /// Open a session.
     Open {
@@ -31,8 +35,6 @@ pub enum SenderCall {
     Send {
         /// The plain octets.
         plain: Vec<u8>,
-        /// The size of the buffer that is handed in for the frame.
-        room: usize,
     },
     /// Close the session.
     Close,
@@ -41,14 +43,14 @@ pub enum SenderCall {
 }
 
 /// What a call on a sender answered.
-#[derive(Debug, Drop)]
+#[derive(Clone, Copy, PartialEq, Eq, Debug)]
 pub enum SenderAnswer {
     /// An accepted open: the session's number.
     Opened(u32),
     /// An accepted torn open.
     Torn,
-    /// An accepted send: the frame.
-    Sent(Vec<u8>),
+    /// An accepted send: the size of the frame, which stands at the start of the step's buffer.
+    Sent(FrameSize),
     /// An accepted close or power cut: the sender rests.
     Rested,
     /// The call was refused.
@@ -57,10 +59,14 @@ pub enum SenderAnswer {
     NotAdmitted,
 }
 
-/// What a call on a sender answered, and the numbers of the store after it.
-#[derive(Debug, Drop)]
-pub struct SenderEntry {
-    /// The answer.
+/// A call on a sender, the buffer that is lent to it, and, once it was made, what it answered.
+#[derive(Drop)]
+pub struct SenderStep {
+    /// The call.
+    pub call: SenderCall,
+    /// The buffer that a send is handed for its frame. No other call writes into it.
+    pub out: Vec<u8>,
+    /// What the call answered.
     pub answer: SenderAnswer,
     /// The store's mark after the call.
     pub mark: u32,
@@ -68,8 +74,23 @@ pub struct SenderEntry {
     pub left: u32,
 }
 
+impl SenderStep {
+    /// A call that is yet to be made, with the buffer that it is lent.
+    pub fn new(call: SenderCall, out: Vec<u8>) -> SenderStep
+        ensures { result ≡ record { call = call; out = out; answer = NotAdmitted; mark = 0; left = 0 } }
+    {
+        SenderStep {
+            call,
+            out,
+            answer: SenderAnswer::NotAdmitted,
+            mark: 0,
+            left: 0,
+        }
+    }
+}
+
 /// A call on a receiver.
-#[derive(Debug, Drop)]
+#[derive(Drop)]
 pub enum ReceiverCall {
     /// Pair the receiver.
     Pair {
@@ -82,31 +103,49 @@ pub enum ReceiverCall {
     },
     /// Hand octets to the receiver.
     Receive {
-        /// The octets that came.
+        /// The octets that come.
         octets: Vec<u8>,
-        /// The size of the buffer that is handed in for the plain.
-        room: usize,
+    },
+    /// Hand a frame of the sender to the receiver.
+    Deliver {
+        /// The index of the call on the sender that wrote the frame, counted from 0.
+        call: usize,
+        /// What is added bit by bit to the first octets of the frame on its way; none for a frame that comes unaltered.
+        change: Vec<u8>,
     },
 }
 
 /// What a call on a receiver answered.
-#[derive(Debug, Drop)]
+#[derive(Clone, Copy, PartialEq, Eq, Debug)]
 pub enum ReceiverAnswer {
     /// An accepted pair.
     Paired,
-    /// An accepted receive: the plain that was written, and what the receiver answered.
-    Uncovered(Vec<u8>, Received),
+    /// An accepted receive: the plain stands at the start of the step's buffer, and this is what the receiver answered.
+    Uncovered(Received),
     /// The call was refused.
     Declined(Refusal),
 }
 
-/// What all calls of a run answered.
-#[derive(Debug, Drop)]
-pub struct Transcript {
-    /// One for each call on the sender, in order.
-    pub sender: Vec<SenderEntry>,
-    /// One for each call on the receiver, in order.
-    pub receiver: Vec<ReceiverAnswer>,
-    /// Whether every call was made; where memory runs out, the calls after that are not.
-    pub complete: bool,
+/// A call on a receiver, the buffer that is lent to it, and, once it was made, what it answered.
+#[derive(Drop)]
+pub struct ReceiverStep {
+    /// The call.
+    pub call: ReceiverCall,
+    /// The buffer that a receive is handed for the plain. No other call writes into it.
+    pub out: Vec<u8>,
+    /// What the call answered; none where a frame was to be delivered that the sender did not write, so that no call was made.
+    pub answer: Option<ReceiverAnswer>,
+}
+
+impl ReceiverStep {
+    /// A call that is yet to be made, with the buffer that it is lent.
+    pub fn new(call: ReceiverCall, out: Vec<u8>) -> ReceiverStep
+        ensures { result ≡ record { call = call; out = out; answer = None } }
+    {
+        ReceiverStep {
+            call,
+            out,
+            answer: None,
+        }
+    }
 }

@@ -1,13 +1,13 @@
 //! One call on a receiver.
-ghost use Rattle.std.specs.Prelude.{◌≡◌, length, MatchOption};
+ghost use Rattle.std.specs.Prelude.{◌≡◌, ℕ, ◌≤◌, List, length, IfSome, Some};
+ghost use Rattle.std.specs.Option.{option_map};
 ghost use Rattle.receiver.specs.Receiving.{holds};
-ghost use Rattle.runs.specs.Calls.{came, pairing, receiving};
-ghost use Rattle.runs.specs.Histories.{Receives};
-ghost use Rattle.runs.specs.Readings.{outcome_of, receipt_of, receiver_as};
+ghost use Rattle.histories.specs.Calls.{came, pairing, receiving};
+ghost use Rattle.histories.specs.Histories.{Receives};
+ghost use Rattle.runs.specs.Readings.{Beyond, Handled, Taken, changed, frame_at, octets_opened, outcome_of, receiver_as};
 
-use crate::calls::{ReceiverAnswer, ReceiverCall};
+use crate::calls::{ReceiverAnswer, ReceiverCall, ReceiverStep, SenderAnswer, SenderStep};
 use receiver::Receiver;
-use std::alloc::Global;
 use stream::engine::Reversible;
 
 fn pair<F: Reversible>(
@@ -16,10 +16,11 @@ fn pair<F: Reversible>(
     label: &[u8],
     allowance: u32,
 ) -> ReceiverAnswer
-    ensures { Receives F.Engine.cipher
+    ensures step { (out : List ℕ) → Receives F.Engine.cipher
         (receiver_as F.Engine.cipher (holds F.Engine.cipher F.Engine.state receiver.old))
-        (came (pairing key.now label.now allowance) (outcome_of result))
+        (came (pairing key.now label.now allowance) (outcome_of result out))
         (receiver_as F.Engine.cipher (holds F.Engine.cipher F.Engine.state receiver.new)) }
+    ensures unwritten { octets_opened (Some result) ≡ 0 }
 {
     match receiver.pair(key, label, allowance) {
         Ok(()) => ReceiverAnswer::Paired,
@@ -30,32 +31,80 @@ fn pair<F: Reversible>(
 fn receive<F: Reversible>(
     receiver: &mut Receiver<F>,
     octets: &[u8],
-    mut out: Vec<u8>,
+    out: &mut [u8],
 ) -> ReceiverAnswer
-    ensures { Receives F.Engine.cipher
+    ensures step { Receives F.Engine.cipher
         (receiver_as F.Engine.cipher (holds F.Engine.cipher F.Engine.state receiver.old))
-        (came (receiving octets.now (length out.items)) (outcome_of result))
+        (came (receiving octets.now (length out.old)) (outcome_of result out.new))
         (receiver_as F.Engine.cipher (holds F.Engine.cipher F.Engine.state receiver.new)) }
+    ensures beyond { Beyond (octets_opened (Some result)) out.old out.new }
 {
-    match receiver.receive(octets, out.as_mut_slice()) {
-        Ok(received) => {
-            out.truncate(received.length as usize);
-            ReceiverAnswer::Uncovered(out, received)
-        }
+    match receiver.receive(octets, out) {
+        Ok(received) => ReceiverAnswer::Uncovered(received),
         Err(refusal) => ReceiverAnswer::Declined(refusal),
     }
 }
 
-/// One call on a receiver. No answer: there was no memory for the buffer, and no call was made.
-pub fn taken<F: Reversible>(
-    heap: Global,
+// The frame that the call of an index wrote, if it wrote one.
+fn frame_at(sent: &[SenderStep], call: usize) -> Option<&[u8]>
+    ensures value { option_map (λ x. x.now) result ≡ frame_at sent.now call }
+    ensures short { IfSome result (λ f. length f.now ≤ 1034) }
+{
+    if call >= sent.len() {
+        return None;
+    }
+    let step = &sent[call];
+    match step.answer {
+        SenderAnswer::Sent(size) => {
+            let out = step.out.as_slice();
+            Some(&out[0..size.octets.min(out.len())])
+        }
+        _ => None,
+    }
+}
+
+// Adds a change bit by bit to the first octets of a frame.
+fn change_octets(octets: &mut [u8], change: &[u8])
+    ensures { octets.new ≡ changed octets.old change.now }
+{
+    let end = octets.len().min(change.len());
+    for i in 0..end {
+        octets[i] ^= change[i];
+    }
+}
+
+// Hands a frame of at most 1,034 octets to a receiver, with a change added on its way.
+fn deliver<F: Reversible>(
     receiver: &mut Receiver<F>,
-    call: &ReceiverCall,
-) -> Option<ReceiverAnswer>
-    ensures { MatchOption result (receiver.new ≡ receiver.old) (λ a. Receives F.Engine.cipher
+    frame: &[u8],
+    change: &[u8],
+    out: &mut [u8],
+) -> ReceiverAnswer
+    requires { length frame.now ≤ 1034 }
+    ensures step { Receives F.Engine.cipher
         (receiver_as F.Engine.cipher (holds F.Engine.cipher F.Engine.state receiver.old))
-        (came (receipt_of call.now) (outcome_of a))
-        (receiver_as F.Engine.cipher (holds F.Engine.cipher F.Engine.state receiver.new))) }
+        (came (receiving (changed frame.now change.now) (length out.old)) (outcome_of result out.new))
+        (receiver_as F.Engine.cipher (holds F.Engine.cipher F.Engine.state receiver.new)) }
+    ensures beyond { Beyond (octets_opened (Some result)) out.old out.new }
+{
+    let mut copy = [0u8; 1034];
+    let octets = &mut copy[0..frame.len()];
+    octets.copy_from_slice(frame);
+    change_octets(octets, change);
+    receive(receiver, octets, out)
+}
+
+// One call on a receiver, where the sender's calls were made. No answer: there was no frame to deliver, and no call was made.
+fn handled<F: Reversible>(
+    receiver: &mut Receiver<F>,
+    sent: &[SenderStep],
+    call: &ReceiverCall,
+    out: &mut [u8],
+) -> Option<ReceiverAnswer>
+    ensures { Handled F.Engine.cipher sent.now
+        (receiver_as F.Engine.cipher (holds F.Engine.cipher F.Engine.state receiver.old))
+        call.now out.old out.new result
+        (receiver_as F.Engine.cipher (holds F.Engine.cipher F.Engine.state receiver.new)) }
 {
     match call {
         ReceiverCall::Pair {
@@ -63,9 +112,25 @@ pub fn taken<F: Reversible>(
             label,
             allowance,
         } => Some(pair(receiver, key.as_slice(), label.as_slice(), *allowance)),
-        ReceiverCall::Receive { octets, room } => match vec![in heap; 0u8; *room] {
-            Ok(out) => Some(receive(receiver, octets.as_slice(), out)),
-            Err(_) => None,
+        ReceiverCall::Receive { octets } => Some(receive(receiver, octets.as_slice(), out)),
+        ReceiverCall::Deliver { call, change } => match frame_at(sent, *call) {
+            Some(frame) => Some(deliver(receiver, frame, change.as_slice(), out)),
+            None => None,
         },
     }
+}
+
+/// Makes the call of a step on a receiver, where the sender's calls were made, and notes what it answered.
+pub fn take_in<F: Reversible>(
+    receiver: &mut Receiver<F>,
+    sent: &[SenderStep],
+    step: &mut ReceiverStep,
+)
+    ensures { Taken F.Engine.cipher sent.now
+        (receiver_as F.Engine.cipher (holds F.Engine.cipher F.Engine.state receiver.old))
+        step.old step.new
+        (receiver_as F.Engine.cipher (holds F.Engine.cipher F.Engine.state receiver.new)) }
+{
+    let answer = handled(receiver, sent, &step.call, step.out.as_mut_slice());
+    step.answer = answer;
 }

@@ -4,5 +4,6 @@
 pub mod calls;
 pub mod comings;
 pub mod run;
+pub mod size;
 pub mod stage;
 pub mod turns;

@@ -1,15 +1,15 @@
 //! One call on a sender.
-ghost use Rattle.std.specs.Prelude.{◌≡◌, length, IfSome};
-ghost use Rattle.runs.specs.Calls.{made, opening, torn_opening, sending};
-ghost use Rattle.runs.specs.Histories.{Step};
-ghost use Rattle.runs.specs.Readings.{answer_of, call_of, resting_as, sending_as, stage_as};
+ghost use Rattle.std.specs.Prelude.{◌≡◌, ℕ, List, length};
+ghost use Rattle.histories.specs.Calls.{made, opening, torn_opening, sending};
+ghost use Rattle.histories.specs.Histories.{Step, marks_of};
+ghost use Rattle.runs.specs.Readings.{Acted, Beyond, Turned, answer_of, octets_sent, resting_as, sending_as, stage_as};
 
-use crate::calls::{SenderAnswer, SenderCall};
+use crate::calls::{SenderAnswer, SenderCall, SenderStep};
+use crate::size::FrameSize;
 use crate::stage::Stage;
 use marks::store::MarkStore;
 use sender::resting::Resting;
 use sender::sending::Sending;
-use std::alloc::Global;
 use stream::engine::Engine;
 
 fn open<E: Engine + Drop, S: MarkStore + Drop>(
@@ -18,9 +18,10 @@ fn open<E: Engine + Drop, S: MarkStore + Drop>(
     label: &[u8],
     allowance: u32,
 ) -> (Stage<E, S>, SenderAnswer)
-    ensures { Step E.Engine.cipher S.MarkStore.writes (resting_as E.Engine.cipher S.MarkStore.mark S.MarkStore.left sender)
-        (made (opening key.now label.now allowance) (answer_of result.1))
+    ensures step { (out : List ℕ) → Step E.Engine.cipher S.MarkStore.writes (resting_as E.Engine.cipher S.MarkStore.mark S.MarkStore.left sender)
+        (made (opening key.now label.now allowance) (answer_of result.1 out))
         (stage_as E.Engine.cipher E.Engine.state S.MarkStore.mark S.MarkStore.left result.0) }
+    ensures unwritten { octets_sent result.1 ≡ 0 }
 {
     match sender.open(key, label, allowance) {
         Ok(sending) => {
@@ -39,9 +40,10 @@ fn torn_open<E: Engine + Drop, S: MarkStore + Drop>(
     writes_done: u32,
     junk: u32,
 ) -> (Stage<E, S>, SenderAnswer)
-    ensures { Step E.Engine.cipher S.MarkStore.writes (resting_as E.Engine.cipher S.MarkStore.mark S.MarkStore.left sender)
-        (made (torn_opening key.now label.now allowance writes_done junk) (answer_of result.1))
+    ensures step { (out : List ℕ) → Step E.Engine.cipher S.MarkStore.writes (resting_as E.Engine.cipher S.MarkStore.mark S.MarkStore.left sender)
+        (made (torn_opening key.now label.now allowance writes_done junk) (answer_of result.1 out))
         (stage_as E.Engine.cipher E.Engine.state S.MarkStore.mark S.MarkStore.left result.0) }
+    ensures unwritten { octets_sent result.1 ≡ 0 }
 {
     match sender.torn_open(key, label, allowance, writes_done, junk) {
         Ok(resting) => (Stage::AtRest(resting), SenderAnswer::Torn),
@@ -52,29 +54,30 @@ fn torn_open<E: Engine + Drop, S: MarkStore + Drop>(
 fn send<E: Engine + Drop, S: MarkStore + Drop>(
     sender: Sending<E, S>,
     plain: &[u8],
-    mut out: Vec<u8>,
+    out: &mut [u8],
 ) -> (Stage<E, S>, SenderAnswer)
-    ensures { Step E.Engine.cipher S.MarkStore.writes (sending_as E.Engine.cipher E.Engine.state S.MarkStore.mark S.MarkStore.left sender)
-        (made (sending plain.now (length out.items)) (answer_of result.1))
+    ensures step { Step E.Engine.cipher S.MarkStore.writes (sending_as E.Engine.cipher E.Engine.state S.MarkStore.mark S.MarkStore.left sender)
+        (made (sending plain.now (length out.old)) (answer_of result.1 out.new))
         (stage_as E.Engine.cipher E.Engine.state S.MarkStore.mark S.MarkStore.left result.0) }
+    ensures beyond { Beyond (octets_sent result.1) out.old out.new }
 {
     let mut sender = sender;
-    match sender.send(plain, out.as_mut_slice()) {
-        Ok(n) => {
-            out.truncate(n);
-            (Stage::InSession(sender), SenderAnswer::Sent(out))
-        }
+    match sender.send(plain, out) {
+        Ok(octets) => (
+            Stage::InSession(sender),
+            SenderAnswer::Sent(FrameSize { octets }),
+        ),
         Err(refusal) => (Stage::InSession(sender), SenderAnswer::Refused(refusal)),
     }
 }
 
-// One call on a sender at rest. What the build does not admit there is not made.
+// One call on a sender at rest, whatever buffer it is lent. What the build does not admit there is not made.
 fn turn_at_rest<E: Engine + Drop, S: MarkStore + Drop>(
     sender: Resting<E, S>,
     call: &SenderCall,
 ) -> (Stage<E, S>, SenderAnswer)
-    ensures { Step E.Engine.cipher S.MarkStore.writes (resting_as E.Engine.cipher S.MarkStore.mark S.MarkStore.left sender)
-        (made (call_of call.now) (answer_of result.1))
+    ensures { (out : List ℕ) → Acted E.Engine.cipher S.MarkStore.writes (resting_as E.Engine.cipher S.MarkStore.mark S.MarkStore.left sender)
+        call.now out out result.1
         (stage_as E.Engine.cipher E.Engine.state S.MarkStore.mark S.MarkStore.left result.0) }
 {
     match call {
@@ -97,70 +100,84 @@ fn turn_at_rest<E: Engine + Drop, S: MarkStore + Drop>(
             *writes_done,
             *junk,
         ),
-        SenderCall::Send { plain: _, room: _ } => (
-            Stage::AtRest(sender),
-            SenderAnswer::NotAdmitted,
-        ),
+        SenderCall::Send { plain: _ } => (Stage::AtRest(sender), SenderAnswer::NotAdmitted),
         SenderCall::Close => (Stage::AtRest(sender), SenderAnswer::NotAdmitted),
         SenderCall::PowerCut => (Stage::AtRest(sender.power_cut()), SenderAnswer::Rested),
     }
 }
 
-// One call on a sender in a session. What the build does not admit there is not made. No answer: there was no memory for the buffer, and no call was made.
+// One call on a sender in a session. What the build does not admit there is not made.
 fn turn_in_session<E: Engine + Drop, S: MarkStore + Drop>(
-    heap: Global,
     sender: Sending<E, S>,
     call: &SenderCall,
-) -> (Stage<E, S>, Option<SenderAnswer>)
-    ensures { IfSome result.1 (λ a. Step E.Engine.cipher S.MarkStore.writes
+    out: &mut [u8],
+) -> (Stage<E, S>, SenderAnswer)
+    ensures { Acted E.Engine.cipher S.MarkStore.writes
         (sending_as E.Engine.cipher E.Engine.state S.MarkStore.mark S.MarkStore.left sender)
-        (made (call_of call.now) (answer_of a))
-        (stage_as E.Engine.cipher E.Engine.state S.MarkStore.mark S.MarkStore.left result.0)) }
+        call.now out.old out.new result.1
+        (stage_as E.Engine.cipher E.Engine.state S.MarkStore.mark S.MarkStore.left result.0) }
 {
     match call {
-        SenderCall::Send { plain, room } => match vec![in heap; 0u8; *room] {
-            Ok(out) => {
-                let turned = send(sender, plain.as_slice(), out);
-                (turned.0, Some(turned.1))
-            }
-            Err(_) => (Stage::InSession(sender), None),
-        },
-        SenderCall::Close => (Stage::AtRest(sender.close()), Some(SenderAnswer::Rested)),
-        SenderCall::PowerCut => (
-            Stage::AtRest(sender.power_cut()),
-            Some(SenderAnswer::Rested),
-        ),
+        SenderCall::Send { plain } => send(sender, plain.as_slice(), out),
+        SenderCall::Close => (Stage::AtRest(sender.close()), SenderAnswer::Rested),
+        SenderCall::PowerCut => (Stage::AtRest(sender.power_cut()), SenderAnswer::Rested),
         SenderCall::Open {
             key: _,
             label: _,
             allowance: _,
-        } => (Stage::InSession(sender), Some(SenderAnswer::NotAdmitted)),
+        } => (Stage::InSession(sender), SenderAnswer::NotAdmitted),
         SenderCall::TornOpen {
             key: _,
             label: _,
             allowance: _,
             writes_done: _,
             junk: _,
-        } => (Stage::InSession(sender), Some(SenderAnswer::NotAdmitted)),
+        } => (Stage::InSession(sender), SenderAnswer::NotAdmitted),
     }
 }
 
-/// One call on a sender, if the build admits it on such a sender. No answer: there was no memory for a buffer, and no call was made.
-pub fn turn<E: Engine + Drop, S: MarkStore + Drop>(
-    heap: Global,
+// One call on a sender, if the build admits it on such a sender.
+fn acted<E: Engine + Drop, S: MarkStore + Drop>(
     stage: Stage<E, S>,
     call: &SenderCall,
-) -> (Stage<E, S>, Option<SenderAnswer>)
-    ensures { IfSome result.1 (λ a. Step E.Engine.cipher S.MarkStore.writes
+    out: &mut [u8],
+) -> (Stage<E, S>, SenderAnswer)
+    ensures { Acted E.Engine.cipher S.MarkStore.writes
         (stage_as E.Engine.cipher E.Engine.state S.MarkStore.mark S.MarkStore.left stage)
-        (made (call_of call.now) (answer_of a))
-        (stage_as E.Engine.cipher E.Engine.state S.MarkStore.mark S.MarkStore.left result.0)) }
+        call.now out.old out.new result.1
+        (stage_as E.Engine.cipher E.Engine.state S.MarkStore.mark S.MarkStore.left result.0) }
 {
     match stage {
-        Stage::AtRest(sender) => {
-            let turned = turn_at_rest(sender, call);
-            (turned.0, Some(turned.1))
-        }
-        Stage::InSession(sender) => turn_in_session(heap, sender, call),
+        Stage::AtRest(sender) => turn_at_rest(sender, call),
+        Stage::InSession(sender) => turn_in_session(sender, call, out),
     }
+}
+
+// The mark of a sender's store and the raises left.
+fn store_numbers<E: Engine + Drop, S: MarkStore + Drop>(stage: &Stage<E, S>) -> (u32, u32)
+    ensures { marks_of E.Engine.cipher (stage_as E.Engine.cipher E.Engine.state S.MarkStore.mark S.MarkStore.left stage.now)
+        ≡ (result.0, result.1) }
+{
+    match stage {
+        Stage::AtRest(sender) => (sender.store().read(), sender.store().raises_left()),
+        Stage::InSession(sender) => (sender.store().read(), sender.store().raises_left()),
+    }
+}
+
+/// Makes the call of a step on a sender, if the build admits it on such a sender, and notes what it answered and the numbers of the store after it.
+pub fn turn<E: Engine + Drop, S: MarkStore + Drop>(
+    stage: Stage<E, S>,
+    step: &mut SenderStep,
+) -> Stage<E, S>
+    ensures { Turned E.Engine.cipher S.MarkStore.writes
+        (stage_as E.Engine.cipher E.Engine.state S.MarkStore.mark S.MarkStore.left stage)
+        step.old step.new
+        (stage_as E.Engine.cipher E.Engine.state S.MarkStore.mark S.MarkStore.left result) }
+{
+    let (stage, answer) = acted(stage, &step.call, step.out.as_mut_slice());
+    step.answer = answer;
+    let (mark, left) = store_numbers(&stage);
+    step.mark = mark;
+    step.left = left;
+    stage
 }

@@ -4,7 +4,7 @@ use Rattle.std.specs.Fmt.{signed_decimal}
 use Rattle.stream.specs.Refusals.{number}
 use Rattle.stream.specs.declared.refusal.Refusal.{Refusal}
 use Rattle.receiver.specs.declared.Received.{Received}
-use Rattle.lent_runs.specs.declared.calls.SenderStep.{SenderStep}
+use Rattle.runs.specs.declared.calls.SenderStep.{SenderStep}
 use Rattle.texts.specs.Dump.{hex_digits}
 use Rattle.transcript.specs.Texts.{reason_text, refused_text, frame_text, plain_text, sender_answer_text, sender_text, tally_text}
 use Rattle.transcript.specs.declared.totals.Tally.{Tally}

@@ -5,12 +5,12 @@ use Rattle.stream.specs.Refusals.{number}
 use Rattle.stream.specs.declared.refusal.Refusal.{Refusal}
 use Rattle.stream.specs.declared.refusal.Refusal.TheVariants.{KeyLength, LabelLength, ForbiddenBit, BadAllowance, PlainLength, BadFrame, ShortBuffer, NoRaiseLeft, AboveAllowance, NeverPaired}
 use Rattle.receiver.specs.declared.Received.{Received}
-use Rattle.lent_runs.specs.declared.calls.SenderAnswer.{SenderAnswer}
-use Rattle.lent_runs.specs.declared.calls.SenderAnswer.TheVariants.{Opened, Torn, Sent, Rested, Refused, NotAdmitted}
-use Rattle.lent_runs.specs.declared.calls.SenderStep.{SenderStep}
-use Rattle.lent_runs.specs.declared.calls.ReceiverAnswer.{ReceiverAnswer}
-use Rattle.lent_runs.specs.declared.calls.ReceiverAnswer.TheVariants.{Paired, Uncovered, Declined}
-use Rattle.lent_runs.specs.declared.calls.ReceiverStep.{ReceiverStep}
+use Rattle.runs.specs.declared.calls.SenderAnswer.{SenderAnswer}
+use Rattle.runs.specs.declared.calls.SenderAnswer.TheVariants.{Opened, Torn, Sent, Rested, Refused, NotAdmitted}
+use Rattle.runs.specs.declared.calls.SenderStep.{SenderStep}
+use Rattle.runs.specs.declared.calls.ReceiverAnswer.{ReceiverAnswer}
+use Rattle.runs.specs.declared.calls.ReceiverAnswer.TheVariants.{Paired, Uncovered, Declined}
+use Rattle.runs.specs.declared.calls.ReceiverStep.{ReceiverStep}
 use Rattle.texts.specs.Dump.{hex_digits}
 use Rattle.transcript.specs.declared.totals.Tally.{Tally}
 

@@ -1,12 +1,12 @@
 -- The totals of a run from its steps, as they stand once they were made.
 use Rattle.std.specs.Prelude.{ℕ, ◌-◌, Bool, true, false, ◌&&◌, List, is_some, Some, None, vec_items, sum_by, count_by, Option}
-use Rattle.lent_runs.specs.Readings.{frame_in, octets_sent}
-use Rattle.lent_runs.specs.declared.calls.SenderStep.{SenderStep}
-use Rattle.lent_runs.specs.declared.calls.ReceiverCall.{ReceiverCall}
-use Rattle.lent_runs.specs.declared.calls.ReceiverCall.TheVariants.{Pair, Receive, Deliver}
-use Rattle.lent_runs.specs.declared.calls.ReceiverAnswer.{ReceiverAnswer}
-use Rattle.lent_runs.specs.declared.calls.ReceiverAnswer.TheVariants.{Paired, Uncovered, Declined}
-use Rattle.lent_runs.specs.declared.calls.ReceiverStep.{ReceiverStep}
+use Rattle.runs.specs.Readings.{frame_in, octets_sent}
+use Rattle.runs.specs.declared.calls.SenderStep.{SenderStep}
+use Rattle.runs.specs.declared.calls.ReceiverCall.{ReceiverCall}
+use Rattle.runs.specs.declared.calls.ReceiverCall.TheVariants.{Pair, Receive, Deliver}
+use Rattle.runs.specs.declared.calls.ReceiverAnswer.{ReceiverAnswer}
+use Rattle.runs.specs.declared.calls.ReceiverAnswer.TheVariants.{Paired, Uncovered, Declined}
+use Rattle.runs.specs.declared.calls.ReceiverStep.{ReceiverStep}
 use Rattle.transcript.specs.declared.totals.Tally.{Tally}
 
 -- the step sent a frame

@@ -4,7 +4,7 @@ ghost use Rattle.transcript.specs.Totals.{sent_frame, opened_frame, refused_fram
 
 use crate::HEADER_OCTETS;
 use crate::totals::Tally;
-use lent_runs::calls::{ReceiverAnswer, ReceiverCall, ReceiverStep, SenderAnswer, SenderStep};
+use runs::calls::{ReceiverAnswer, ReceiverCall, ReceiverStep, SenderAnswer, SenderStep};
 
 fn sent_frame(step: &SenderStep) -> bool
     ensures { result ≡ sent_frame step.now }

@@ -4,7 +4,7 @@ ghost use Rattle.transcript.specs.Texts.{reason_text, refused_text, frame_text, 
 
 use crate::HEADER_OCTETS;
 use crate::totals::Tally;
-use lent_runs::calls::{ReceiverAnswer, ReceiverStep, SenderAnswer, SenderStep};
+use runs::calls::{ReceiverAnswer, ReceiverStep, SenderAnswer, SenderStep};
 use receiver::Received;
 use std::alloc::{AllocError, Global};
 use stream::refusal::Refusal;
@@ -121,7 +121,7 @@ pub fn receiver_text(heap: Global, step: &ReceiverStep) -> Result<String, AllocE
 
 /// The totals of a run as text: `frames sent N, opened N, refused N; keystream octets used N, none twice`.
 ///
-/// `none twice` is written of any totals. That a run uses no keystream octet twice is what `lent_runs::run::run` promises of its steps;
+/// `none twice` is written of any totals. That a run uses no keystream octet twice is what `runs::run::run` promises of its steps;
 /// nothing here looks for it.
 pub fn tally_text(heap: Global, tally: &Tally) -> Result<String, AllocError>
     ensures { IfOk result (λ s. string_bytes s ≡ tally_text tally.now) }

@@ -4,8 +4,8 @@ use lib.ListN.{length-replicate}
 use Rattle.std.specs.declared.alloc.Global.{Global}
 use Rattle.std.proofs.lemmas.List.{nil_from_length}
 use Rattle.std.proofs.lemmas.Bool.{eqb-true}
-use Rattle.lent_runs.specs.Readings.{call_of}
-use Rattle.lent_runs.specs.declared.calls.SenderCall.{SenderCall}
+use Rattle.runs.specs.Readings.{call_of}
+use Rattle.runs.specs.declared.calls.SenderCall.{SenderCall}
 use Rattle.scenario.specs.declared.line.Line.{Line}
 use Rattle.trial.specs.Plans.{Calls, Receipts, Asked, Names, NotTaken, Sent}
 use Rattle.trial.specs.declared.plan.Plan.{Plan}

@@ -5,9 +5,9 @@ use Rattle.strip.specs.Strips.{strip_mark, strip_left}
 use Rattle.column.specs.Columns.{column_mark, column_left}
 use Rattle.histories.specs.Histories.{Marks, at_rest, receiver}
 use Rattle.histories.specs.Promises.{Promise}
-use Rattle.lent_runs.specs.Readings.{SenderRan, ReceiverRan, entries, events}
-use Rattle.lent_runs.specs.declared.calls.SenderStep.{SenderStep}
-use Rattle.lent_runs.specs.declared.calls.ReceiverStep.{ReceiverStep}
+use Rattle.runs.specs.Readings.{SenderRan, ReceiverRan, entries, events}
+use Rattle.runs.specs.declared.calls.SenderStep.{SenderStep}
+use Rattle.runs.specs.declared.calls.ReceiverStep.{ReceiverStep}
 use Rattle.trial.specs.declared.memory.Memory.{Memory}
 use Rattle.trial.specs.declared.memory.Memory.TheVariants.{Strip, Column}
 

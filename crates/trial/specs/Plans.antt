@@ -1,11 +1,11 @@
 -- What each line of a scenario does to a plan.
 use Rattle.std.specs.Prelude.{◌≡◌, ℕ, ◌+◌, ◌-◌, ◌*◌, ◌<◌, ◌≤◌, List, [], ◌∷◌, ◌++◌, length, replicate, vec_items, slice_index}
 use Rattle.histories.specs.Calls.{Call, opening, torn_opening, sending, closing, power_cut}
-use Rattle.lent_runs.specs.Readings.{call_of}
-use Rattle.lent_runs.specs.declared.calls.SenderStep.{SenderStep}
-use Rattle.lent_runs.specs.declared.calls.ReceiverCall.{ReceiverCall}
-use Rattle.lent_runs.specs.declared.calls.ReceiverCall.TheVariants.{Pair as PairCall, Receive, Deliver as DeliverCall}
-use Rattle.lent_runs.specs.declared.calls.ReceiverStep.{ReceiverStep}
+use Rattle.runs.specs.Readings.{call_of}
+use Rattle.runs.specs.declared.calls.SenderStep.{SenderStep}
+use Rattle.runs.specs.declared.calls.ReceiverCall.{ReceiverCall}
+use Rattle.runs.specs.declared.calls.ReceiverCall.TheVariants.{Pair as PairCall, Receive, Deliver as DeliverCall}
+use Rattle.runs.specs.declared.calls.ReceiverStep.{ReceiverStep}
 use Rattle.scenario.specs.declared.line.Line.{Line}
 use Rattle.scenario.specs.declared.line.Line.TheVariants.{Blank, Sender, Receiver, Strip, FreshStrip, Column, FreshColumn, Key, Label, Allowance, Room, Open, Close, Cut, Pair, TornOpen, Send, Deliver, Alter, Noise}
 use Rattle.texts.specs.declared.names.CipherName.{CipherName}

@@ -8,8 +8,8 @@ use grain128::parallel128::*;
 use grain128::parallel128a::*;
 use grain128::serial128::*;
 use grain128::serial128a::*;
-use lent_runs::calls::{ReceiverStep, SenderStep};
-use lent_runs::run::run;
+use runs::calls::{ReceiverStep, SenderStep};
+use runs::run::run;
 use sprout::engine::*;
 use stream::engine::{Engine, Reversible};
 use strip::strip::Strip;
@@ -60,7 +60,7 @@ fn over_receiver<E: Engine + Drop>(
     }
 }
 
-/// Makes a sender and a receiver over the engines of these names and a store over this memory, and all steps on them, as `lent_runs::run::run` does:
+/// Makes a sender and a receiver over the engines of these names and a store over this memory, and all steps on them, as `runs::run::run` does:
 /// its promise holds of them, for every pair of engines and either store. Nothing is allocated.
 pub fn perform(
     sender: CipherName,

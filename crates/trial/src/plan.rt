@@ -1,6 +1,6 @@
 //! What the lines of a scenario ask for.
 use crate::memory::Memory;
-use lent_runs::calls::{ReceiverStep, SenderStep};
+use runs::calls::{ReceiverStep, SenderStep};
 use texts::names::CipherName;
 
 /// What the lines set, each until a later line sets it again.

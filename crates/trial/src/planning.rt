@@ -1,13 +1,13 @@
 //! A plan, line by line.
 ghost use Rattle.std.specs.Prelude.{◌≡◌, ◌+◌, ◌*◌, ◌<◌, ◌≤◌, [], ◌∷◌, ◌++◌, length, replicate, IfOk, MatchResult, slice_index};
 ghost use Rattle.histories.specs.Calls.{opening, sending, torn_opening};
-ghost use Rattle.lent_runs.specs.Readings.{call_of};
+ghost use Rattle.runs.specs.Readings.{call_of};
 ghost use Rattle.trial.specs.Plans.{BlankPlan, Calls, CallsOnly, Does, NotTaken, OutOfMemory, Receipts, Sends, Sent, SetsAllowance, SetsKey, SetsLabel, SetsMemory, SetsReceiver, SetsRoom, SetsSender, TooLate, Unstarted, asked, delivering, handing, holding, pairing as pairing-with, sent_by, words_in};
 ghost use Rattle.trial.specs.declared.plan.PlanFault.TheVariants.{Late, NoMemory, NoSuchSend};
 
 use crate::memory::Memory;
 use crate::plan::{Plan, PlanFault, Planned, Setup};
-use lent_runs::calls::{ReceiverCall, ReceiverStep, SenderCall, SenderStep};
+use runs::calls::{ReceiverCall, ReceiverStep, SenderCall, SenderStep};
 use scenario::line::Line;
 use std::alloc::{AllocError, AllocFailed, Global};
 use texts::names::CipherName;

@@ -1,42 +1,18 @@
-use Rattle.std.proofs.Common.{◌≡◌, vec_items, sym, ◌∙◌, subst, arith}
-use Rattle.std.proofs.lemmas.Bool.{false≢true}
-use Rattle.runs.specs.Readings.{Turns, resting_as, stage_as}
-use Rattle.runs.proofs.Rows.{turns_all, turns_next, push_failed, push_done}
+use Rattle.runs.specs.Readings.{Turned, stage_as}
+use Rattle.runs.proofs.Rows.{half_more, half_all, turns_row}
 use Rattle.runs.proofs.run.run_sender.Goals as goal
 
-pub returns-in_default : goal.returns-in_default
-returns-in_default g c =
-    let as-sender = stage_as g.E.Engine.cipher g.E.Engine.state g.S.MarkStore.mark g.S.MarkStore.left in
-    record {
-      reached = as-sender c.loop-call.stage;
-      turns = turns_all g.E.Engine.cipher g.S.MarkStore.writes c.loop-call.call-index c.args.calls.now _ _ _ c.loop-call.invariant.2;
-      whole = λ e. absurd (false≢true e);
-    }
-
-pub returns-then-is_err : goal.returns-then-is_err
-returns-then-is_err g c =
-    let as-sender = stage_as g.E.Engine.cipher g.E.Engine.state g.S.MarkStore.mark g.S.MarkStore.left in
-    let kept : vec_items c.push.new.self ≡ vec_items c.loop-call.entries =
-    push_failed c.push.result c.is_err.result _ _ _ c.is_err.ensures.value c.if-is_err.true c.push.ensures.items in
-    record {
-      reached = as-sender c.loop-call.stage;
-      turns = subst (λ es. Turns g.E.Engine.cipher g.S.MarkStore.writes (resting_as g.E.Engine.cipher g.S.MarkStore.mark g.S.MarkStore.left c.args.sender) c.args.calls.now es (as-sender c.loop-call.stage)) (sym kept)
-          (turns_all g.E.Engine.cipher g.S.MarkStore.writes c.loop-call.call-index c.args.calls.now _ _ _ c.loop-call.invariant.2);
-      whole = λ e. absurd (false≢true e);
-    }
-
-pub loop-call-preserved : goal.loop-call-preserved
-loop-call-preserved g c =
-    let inv = c.loop-call.invariant in
-    let more = push_done c.push.result c.is_err.result _ _ _ c.is_err.ensures.value c.if-is_err.false c.push.ensures.items in
-    turns_next g.E.Engine.cipher g.S.MarkStore.writes c.args.calls.now c.loop-call.call-index (vec_items c.loop-call.entries) _ c.call-item.result c.entry-made.result
-    c.in-Some.answer _ _ _ _ c.loop-call-test.true c.call-item.is inv.1 inv.2 c.turn-turned.ensures c.in-Some.is (c.entry-made.ensures.answer ∙ c.in-Some.answer-is) c.entry-made.ensures.marks more
+pub loop-step-preserved : goal.loop-step-preserved
+loop-step-preserved g c =
+    half_more (Turned g.E.Engine.cipher g.S.MarkStore.writes) c.args.steps.now c.loop-step.steps c.loop-step.step-index c.step-item.result c.turn-stage.new.step _ _ _
+    c.loop-step-test.true c.loop-step.invariant c.turn-stage.ensures
 
 pub returns : goal.returns
 returns g c =
-    let as-sender = stage_as g.E.Engine.cipher g.E.Engine.state g.S.MarkStore.mark g.S.MarkStore.left in
+    let cipher = g.E.Engine.cipher in
+    let writes = g.S.MarkStore.writes in
     record {
-      reached = as-sender c.loop-call.stage;
-      turns = turns_all g.E.Engine.cipher g.S.MarkStore.writes c.loop-call.call-index c.args.calls.now _ _ _ c.loop-call.invariant.2;
-      whole = λ e. omega arith;
+      reached = stage_as cipher g.E.Engine.state g.S.MarkStore.mark g.S.MarkStore.left c.loop-step.stage;
+      turns = turns_row cipher writes c.args.steps.now c.loop-step.steps _ _
+          (half_all (Turned cipher writes) c.args.steps.now c.loop-step.steps c.loop-step.step-index _ _ c.loop-step-test.false c.loop-step.invariant);
     }

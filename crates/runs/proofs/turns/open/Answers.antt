@@ -1,7 +1,7 @@
-use Rattle.std.proofs.Common.{sym, ap, subst}
+use Rattle.std.proofs.Common.{sym, refl, ap, subst}
 use Rattle.sender.specs.declared.progress.Progress.{Progress}
-use Rattle.runs.specs.Calls.{made, opening, opened}
-use Rattle.runs.specs.Histories.{Step}
+use Rattle.histories.specs.Calls.{made, opening, opened}
+use Rattle.histories.specs.Histories.{Step}
 use Rattle.runs.specs.Readings.{resting_as, sending_as}
 use Rattle.runs.proofs.Steps.{open_step, open_no_step}
 use Rattle.runs.proofs.turns.open.Goals as goal
@@ -14,12 +14,18 @@ returns-in-Ok g c =
     let to = c.in-Ok.sending in
     let key = c.args.key.now in
     let label = c.args.label.now in
-    subst (λ (p : Progress). Step cipher g.S.MarkStore.writes (resting_as cipher mark left c.args.sender) (made (opening key label c.args.allowance) (opened p.session))
-    (sending_as cipher g.E.Engine.state mark left to)) (sym c.progress-session.ensures)
-    (open_step mark left cipher g.S.MarkStore.writes key label c.args.allowance c.args.sender.store to.store to.progress (g.E.Engine.state to.engine) c.in-Ok.ensures)
+    record {
+      step = λ out. subst (λ (p : Progress). Step cipher g.S.MarkStore.writes (resting_as cipher mark left c.args.sender) (made (opening key label c.args.allowance) (opened p.session))
+          (sending_as cipher g.E.Engine.state mark left to)) (sym c.progress-session.ensures)
+          (open_step mark left cipher g.S.MarkStore.writes key label c.args.allowance c.args.sender.store to.store to.progress (g.E.Engine.state to.engine) c.in-Ok.ensures);
+      unwritten = refl;
+    }
 
 pub returns-in-Err : goal.returns-in-Err
 returns-in-Err g c =
     let e = c.in-Err.ensures in
-    open_no_step g.S.MarkStore.mark g.S.MarkStore.left g.E.Engine.cipher g.S.MarkStore.writes c.args.key.now c.args.label.now c.args.allowance _
-    c.args.sender.store c.in-Err.resting.store e.0 (ap (λ r. r.store) e.1)
+    record {
+      step = λ out. open_no_step g.S.MarkStore.mark g.S.MarkStore.left g.E.Engine.cipher g.S.MarkStore.writes c.args.key.now c.args.label.now c.args.allowance _
+          c.args.sender.store c.in-Err.resting.store e.0 (ap (λ r. r.store) e.1);
+      unwritten = refl;
+    }

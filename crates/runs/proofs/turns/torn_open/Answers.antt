@@ -1,14 +1,20 @@
-use Rattle.std.proofs.Common.{ap}
+use Rattle.std.proofs.Common.{refl, ap}
 use Rattle.runs.proofs.Steps.{torn_step, torn_no_step}
 use Rattle.runs.proofs.turns.torn_open.Goals as goal
 
 pub returns-in-Ok : goal.returns-in-Ok
 returns-in-Ok g c =
-    torn_step g.S.MarkStore.mark g.S.MarkStore.left g.E.Engine.cipher g.S.MarkStore.writes c.args.key.now c.args.label.now c.args.allowance
-    c.args.writes_done c.args.junk c.args.sender.store c.in-Ok.resting.store c.in-Ok.ensures
+    record {
+      step = λ out. torn_step g.S.MarkStore.mark g.S.MarkStore.left g.E.Engine.cipher g.S.MarkStore.writes c.args.key.now c.args.label.now c.args.allowance
+          c.args.writes_done c.args.junk c.args.sender.store c.in-Ok.resting.store c.in-Ok.ensures;
+      unwritten = refl;
+    }
 
 pub returns-in-Err : goal.returns-in-Err
 returns-in-Err g c =
     let e = c.in-Err.ensures in
-    torn_no_step g.S.MarkStore.mark g.S.MarkStore.left g.E.Engine.cipher g.S.MarkStore.writes c.args.key.now c.args.label.now c.args.allowance
-    c.args.writes_done c.args.junk _ c.args.sender.store c.in-Err.resting.store e.0 (ap (λ r. r.store) e.1)
+    record {
+      step = λ out. torn_no_step g.S.MarkStore.mark g.S.MarkStore.left g.E.Engine.cipher g.S.MarkStore.writes c.args.key.now c.args.label.now c.args.allowance
+          c.args.writes_done c.args.junk _ c.args.sender.store c.in-Err.resting.store e.0 (ap (λ r. r.store) e.1);
+      unwritten = refl;
+    }

@@ -1,19 +1,24 @@
-use Rattle.runs.specs.Histories.{closed, cut, open_in_session, torn_in_session}
-use Rattle.runs.proofs.Steps.{for_call, same_store}
+use Rattle.std.proofs.Common.{refl}
+use Rattle.histories.specs.Histories.{closed, cut, open_in_session, torn_in_session}
+use Rattle.runs.proofs.Steps.{for_call, same_store, unwritten}
 use Rattle.runs.proofs.turns.turn_in_session.Goals as goal
 
 pub returns-in-Close : goal.returns-in-Close
 returns-in-Close g c =
-    for_call _ _ _ _ _ _ _ c.in-Close.is
-    (same_store g.S.MarkStore.mark g.S.MarkStore.left g.E.Engine.cipher g.S.MarkStore.writes _ _ c.args.sender.store _ c.close.ensures closed)
+    for_call _ _ _ _ _ _ _ _ _ c.in-Close.is (record {
+      step = same_store g.S.MarkStore.mark g.S.MarkStore.left g.E.Engine.cipher g.S.MarkStore.writes _ _ c.args.sender.store _ c.close.ensures closed;
+      beyond = unwritten _ _ _ refl;
+    })
 
 pub returns-in-PowerCut : goal.returns-in-PowerCut
 returns-in-PowerCut g c =
-    for_call _ _ _ _ _ _ _ c.in-PowerCut.is
-    (same_store g.S.MarkStore.mark g.S.MarkStore.left g.E.Engine.cipher g.S.MarkStore.writes _ _ c.args.sender.store _ c.power_cut.ensures cut)
+    for_call _ _ _ _ _ _ _ _ _ c.in-PowerCut.is (record {
+      step = same_store g.S.MarkStore.mark g.S.MarkStore.left g.E.Engine.cipher g.S.MarkStore.writes _ _ c.args.sender.store _ c.power_cut.ensures cut;
+      beyond = unwritten _ _ _ refl;
+    })
 
 pub returns-in-Open : goal.returns-in-Open
-returns-in-Open g c = for_call _ _ _ _ _ _ _ c.in-Open.is open_in_session
+returns-in-Open g c = for_call _ _ _ _ _ _ _ _ _ c.in-Open.is (record { step = open_in_session; beyond = unwritten _ _ _ refl })
 
 pub returns-in-TornOpen : goal.returns-in-TornOpen
-returns-in-TornOpen g c = for_call _ _ _ _ _ _ _ c.in-TornOpen.is torn_in_session
+returns-in-TornOpen g c = for_call _ _ _ _ _ _ _ _ _ c.in-TornOpen.is (record { step = torn_in_session; beyond = unwritten _ _ _ refl })

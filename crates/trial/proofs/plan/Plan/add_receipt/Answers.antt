@@ -1,5 +1,5 @@
 use Rattle.std.proofs.Common.{length, vec_items, refl, ap, ◌∙◌}
-use Rattle.lent_runs.specs.declared.calls.ReceiverStep.{ReceiverStep}
+use Rattle.runs.specs.declared.calls.ReceiverStep.{ReceiverStep}
 use Rattle.trial.specs.Plans.{asked}
 use Rattle.trial.specs.declared.plan.Planned.TheVariants.{Receipt}
 use Rattle.trial.proofs.plan.Plan.add_receipt.Goals as goal

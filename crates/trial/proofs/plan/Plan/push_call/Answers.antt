@@ -1,6 +1,6 @@
 use Rattle.std.proofs.Common.{length, vec_items, refl, ap, ◌∙◌}
-use Rattle.lent_runs.specs.Readings.{call_of}
-use Rattle.lent_runs.specs.declared.calls.SenderStep.{SenderStep}
+use Rattle.runs.specs.Readings.{call_of}
+use Rattle.runs.specs.declared.calls.SenderStep.{SenderStep}
 use Rattle.trial.proofs.plan.Plan.push_call.Goals as goal
 
 pub returns : goal.returns

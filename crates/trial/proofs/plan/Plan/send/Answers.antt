@@ -1,5 +1,5 @@
 use Rattle.std.proofs.Common.{rules}
-use Rattle.lent_runs.specs.declared.calls.SenderCall.TheVariants.{Send as SendCall}
+use Rattle.runs.specs.declared.calls.SenderCall.TheVariants.{Send as SendCall}
 use Rattle.trial.proofs.Adding.{calls-room, size_of}
 use Rattle.trial.proofs.plan.Plan.send.Goals as goal
 

@@ -1,11 +1,11 @@
 -- A change added to octets one by one, and the frame that a step of an index wrote.
 use Rattle.std.proofs.Common.{◌≡◌, ℕ, zero, suc, ◌+◌, ◌-◌, ◌<◌, ◌≤◌, min, List, [], ◌∷◌, length, get_or, take, set, None, vec_items, sym, refl, ap, ◌∙◌, subst, add-one, arith}
 use lib.Bits.{bit_xor}
-use Rattle.lent_runs.specs.Readings.{changed, frame_at, frame_in}
-use Rattle.lent_runs.specs.declared.calls.SenderAnswer.{SenderAnswer}
-use Rattle.lent_runs.specs.declared.calls.SenderAnswer.TheVariants.{Opened, Torn, Sent, Rested, Refused, NotAdmitted}
-use Rattle.lent_runs.specs.declared.calls.SenderStep.{SenderStep}
-use Rattle.lent_runs.specs.declared.size.FrameSize.{FrameSize}
+use Rattle.runs.specs.Readings.{changed, frame_at, frame_in}
+use Rattle.runs.specs.declared.calls.SenderAnswer.{SenderAnswer}
+use Rattle.runs.specs.declared.calls.SenderAnswer.TheVariants.{Opened, Torn, Sent, Rested, Refused, NotAdmitted}
+use Rattle.runs.specs.declared.calls.SenderStep.{SenderStep}
+use Rattle.runs.specs.declared.size.FrameSize.{FrameSize}
 
 pub changed_none : (xs : List ℕ) → changed xs [] ≡ xs
 changed_none [] = refl

@@ -1,7 +1,7 @@
 use Rattle.std.proofs.Common.{◌≡◌, ◌-◌, ◌≤◌, length, take, Some, vec_items, sym, ap, ◌∙◌, arith, length-take}
-use Rattle.lent_runs.specs.Readings.{frame_in}
-use Rattle.lent_runs.proofs.Changes.{frame_past, frame_here, frame_none, take_least}
-use Rattle.lent_runs.proofs.comings.frame_at.Goals as goal
+use Rattle.runs.specs.Readings.{frame_in}
+use Rattle.runs.proofs.Changes.{frame_past, frame_here, frame_none, take_least}
+use Rattle.runs.proofs.comings.frame_at.Goals as goal
 
 pub returns-then-call-sent : goal.returns-then-call-sent
 returns-then-call-sent c = record { value = sym (frame_past c.args.sent.now c.args.call c.if-call-sent.true); short = tt }

@@ -1,9 +1,9 @@
 use Rattle.std.proofs.Common.{◌≡◌, length, refl, arith}
 use Rattle.std.proofs.lemmas.List.{with_items_is}
 use Rattle.receiver.specs.Receiving.{holds}
-use Rattle.lent_runs.specs.Readings.{Handled, receiver_as}
-use Rattle.lent_runs.proofs.Changes.{lent}
-use Rattle.lent_runs.proofs.comings.take_in.Goals as goal
+use Rattle.runs.specs.Readings.{Handled, receiver_as}
+use Rattle.runs.proofs.Changes.{lent}
+use Rattle.runs.proofs.comings.take_in.Goals as goal
 
 pub returns : goal.returns
 returns g c =

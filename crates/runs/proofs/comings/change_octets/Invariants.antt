@@ -1,6 +1,6 @@
 use Rattle.std.proofs.Common.{◌≡◌, take}
-use Rattle.lent_runs.specs.Readings.{changed}
-use Rattle.lent_runs.proofs.comings.change_octets.Given as goal
+use Rattle.runs.specs.Readings.{changed}
+use Rattle.runs.proofs.comings.change_octets.Given as goal
 
 -- the octets so far are changed, the others as they were
 abbrev pub invariant-loop-i : goal.invariant-loop-i

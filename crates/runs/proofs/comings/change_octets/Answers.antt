@@ -1,6 +1,6 @@
 use Rattle.std.proofs.Common.{sym, ◌∙◌, arith}
-use Rattle.lent_runs.proofs.Changes.{changed_none, changed_more, changed_all}
-use Rattle.lent_runs.proofs.comings.change_octets.Goals as goal
+use Rattle.runs.proofs.Changes.{changed_none, changed_more, changed_all}
+use Rattle.runs.proofs.comings.change_octets.Goals as goal
 
 pub loop-i-init : goal.loop-i-init
 loop-i-init c = sym (changed_none c.args.octets.now)

@@ -1,8 +1,8 @@
 use Rattle.std.proofs.Common.{◌≡◌, length, refl, arith}
 use Rattle.std.proofs.lemmas.List.{with_items_is}
-use Rattle.lent_runs.specs.Readings.{Acted, stage_as}
-use Rattle.lent_runs.proofs.Changes.{lent}
-use Rattle.lent_runs.proofs.turns.turn.Goals as goal
+use Rattle.runs.specs.Readings.{Acted, stage_as}
+use Rattle.runs.proofs.Changes.{lent}
+use Rattle.runs.proofs.turns.turn.Goals as goal
 
 pub returns : goal.returns
 returns g c =

@@ -2,10 +2,10 @@
 use crate::shared::*;
 use grain128::parallel128::*;
 use grain128::serial128::*;
-use lent_runs::calls::{
+use runs::calls::{
     ReceiverAnswer, ReceiverCall, ReceiverStep, SenderAnswer, SenderCall, SenderStep,
 };
-use lent_runs::run::run;
+use runs::run::run;
 use receiver::Received;
 use std::alloc::Global;
 use std::process::Abort;

@@ -1,4 +1,0 @@
-mod Steps
-mod Rows
-mod Arrivals
-mod Changes
