@@ -1,9 +1,8 @@
 use Rattle.std.proofs.Common.{◌≡◌, ℕ, ◌+◌, ◌*◌, sym, ap, ◌∙◌, arith}
-use Rattle.std.proofs.lemmas.Int.{ints}
 use Rattle.stream.specs.Ciphers.{Cipher, later}
 use Rattle.stream.proofs.Streams.{later-add, later_more}
-use Rattle.receiver.proofs.stages.reach.Goals as goal
-use Rattle.receiver.proofs.stages.reach.Goals.{then-from-to, else-from-to}
+use Rattle.receiver.proofs.Receiver.reach.Goals as goal
+use Rattle.receiver.proofs.Receiver.reach.Goals.{then-from-place, else-from-place}
 
 -- forward by the octets that lie between
 ahead : (c : Cipher) (s before after : c.State) (from to d : ℕ)
@@ -18,14 +17,11 @@ behind c s before after from to d sum here moved =
     let all : 8 * to + 8 * d ≡ 8 * from = omega arith in
     moved (later c (8 * to) s) (sym (later-add c (8 * to) (8 * d) s) ∙ ap (λ n. later c n s) all ∙ sym here)
 
-pub returns : goal.returns
-returns g c =
+pub returns-clause-moves : goal.returns-clause-moves
+returns-clause-moves g c = λ s here.
     let cipher = g.E.Engine.cipher in
     let state = g.E.Engine.state in
-    record {
-      distance = omega (arith, ints);
-      moves = λ s here. elim c.if-from-to.branch [
-        | then-from-to w ↦ ap state w.engine-is ∙ ahead cipher s _ _ _ _ _ (omega arith) here w.forward.ensures
-        | else-from-to w ↦ ap state w.engine-is ∙ behind cipher s _ _ _ _ _ (omega arith) here w.backward.ensures
-      ];
-    }
+    elim c.if-from-place.branch [
+      | then-from-place w ↦ ap (λ r. state r.engine) w.self-is ∙ ahead cipher s _ _ _ _ _ (omega arith) here w.forward.ensures
+      | else-from-place w ↦ ap (λ r. state r.engine) w.self-is ∙ behind cipher s _ _ _ _ _ (omega arith) here w.backward.ensures
+    ]
