@@ -1,7 +1,6 @@
 //! A whole run, from steps given as data.
 use crate::shared::*;
-use grain128::parallel128::*;
-use grain128::serial128::*;
+use grain128::engines::*;
 use runs::calls::{
     ReceiverAnswer, ReceiverCall, ReceiverStep, SenderAnswer, SenderCall, SenderStep,
 };

@@ -1,7 +1,6 @@
 //! A whole run, from a list of calls.
 use crate::shared::*;
-use grain128::parallel128::*;
-use grain128::serial128::*;
+use grain128::engines::*;
 use marks::store::MarkStore;
 use runs::calls::{ReceiverAnswer, ReceiverCall, SenderAnswer, SenderCall};
 use runs::run::run;
