@@ -21,7 +21,11 @@ impl<E: Engine> Refusing<E> {
     /// Checks that a load is refused and leaves the engine as it was.
     fn refuses(&mut self, rt: &impl Abort, key: &[u8], iv: &[u8], why: Refusal) {
         assert_eq!(rt; E::check(key, iv), Err(why), "what the check answers");
-        assert_eq!(rt; self.engine.load(key, iv), Err(why), "what the load answers");
+        assert_eq!(rt;
+            self.engine.load(key, iv),
+            Err(why),
+            "what the load answers"
+        );
         agree(
             rt,
             &mut self.engine,
@@ -57,7 +61,11 @@ fn loads<E: Engine + Drop>(
     if forbids {
         both.refuses(rt, &KEY, &ODD, Refusal::ForbiddenBit);
     } else {
-        assert_eq!(rt; both.engine.load(&KEY, &ODD), Ok(()), "bit 0 of the IV is free");
+        assert_eq!(rt;
+            both.engine.load(&KEY, &ODD),
+            Ok(()),
+            "bit 0 of the IV is free"
+        );
     }
     Ok(())
 }
@@ -88,9 +96,5 @@ fn sprout_takes_63_and_refuses_64_in_octet_8(rt: HostRuntime) {
     iv[8] = 64;
     assert_eq!(rt; engine.load(&key, &iv), Err(Refusal::ForbiddenBit), "64");
     iv[8] = 128;
-    assert_eq!(rt;
-        Sprout::check(&key, &iv),
-        Err(Refusal::ForbiddenBit),
-        "128"
-    );
+    assert_eq!(rt; Sprout::check(&key, &iv), Err(Refusal::ForbiddenBit), "128");
 }
