@@ -33,11 +33,7 @@ zeros_counted xs octets = same_sum (λ x. count.ones (255 - x)) (λ x. zeros (bi
 pub ones_counted : (xs : List ℕ) → All (λ x. x < 256) xs → sum_by count.ones xs ≡ sum_of (λ x. ones (bits 8 x)) xs
 ones_counted xs octets = same_sum count.ones (λ x. ones (bits 8 x)) ones_of xs octets
 
--- a number that is 0, and one that is not
-at_zero : {A : Type 0} (n : ℕ) (x y : A) → n ≡ 0 → elim n [ zero ↦ x | suc _ ↦ y ] ≡ x
-at_zero zero x y e = refl
-at_zero (suc n) x y e = absurd (omega arith)
-
+-- a number that is not 0
 at_more : {A : Type 0} (n : ℕ) (x y : A) → 0 < n → elim n [ zero ↦ x | suc _ ↦ y ] ≡ y
 at_more zero x y h = absurd (omega arith)
 at_more (suc n) x y h = refl
@@ -45,7 +41,7 @@ at_more (suc n) x y h = refl
 -- an octet without a one bit is passed
 passed : (x : ℕ) (xs : List ℕ) → ones (bits 8 x) ≡ 0 → cleared (x ∷ xs) ≡ x ∷ cleared xs
 unfolding cleared
-passed x xs e = at_zero (ones (bits 8 x)) (x ∷ cleared xs) (lowered x ∷ xs) e
+passed x xs e = rw (e, cleared) refl
 
 -- the first octet with a one bit is lowered
 hit : (x : ℕ) (xs : List ℕ) → 0 < ones (bits 8 x) → cleared (x ∷ xs) ≡ lowered x ∷ xs
@@ -124,11 +120,11 @@ module _ (octets : List ℕ) {i : ℕ} (f : FirstSet (used octets) i) where
   same_octet : get_or (used octets) i 0 ≡ get_or octets i 0
   same_octet = get_or-take 4096 octets i 0 (omega (arith, f.inside, length-take 4096 octets))
 
-  pub octet-set : 0 < get_or octets i 0
-  octet-set = rw same_octet at f.not_zero
+  pub octet_set : 0 < get_or octets i 0
+  octet_set = rw same_octet at f.not_zero
 
   one : get_or octets i 0 < 256 → 0 < ones (bits 8 (get_or (used octets) i 0))
-  one fits = rw same_octet (some_one (get_or octets i 0) fits octet-set)
+  one fits = rw same_octet (some_one (get_or octets i 0) fits octet_set)
 
   -- a raise is left where an octet is not 0
   pub some_left : get_or octets i 0 < 256 → 0 < strip_left octets

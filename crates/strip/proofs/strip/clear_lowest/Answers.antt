@@ -1,6 +1,6 @@
 use Rattle.std.proofs.Common.{cond, set, sym, ap, ◌∙◌, arith, rules}
 use Rattle.strip.specs.Strips.{raised_by}
-use Rattle.strip.proofs.Clearing.{used_below, octet-set, some_left, none_left, raised-one, raised_none}
+use Rattle.strip.proofs.Clearing.{used_below, octet_set, some_left, none_left, raised-one, raised_none}
 use Rattle.strip.proofs.strip.clear_lowest.Goals as goal
 
 pub bounds-octets-place : goal.bounds-octets-place
@@ -10,7 +10,7 @@ pub bounds-octets-place-then-written : goal.bounds-octets-place-then-written
 bounds-octets-place-then-written c = used_below c.args.octets.now c.in_ok-place.ensures
 
 pub without_lowest-requires : goal.without_lowest-requires
-without_lowest-requires c = octet-set c.args.octets.now c.in_ok-place.ensures
+without_lowest-requires c = octet_set c.args.octets.now c.in_ok-place.ensures
 
 pub returns-then-written : goal.returns-then-written
 returns-then-written c = (
