@@ -19,6 +19,7 @@ pub const WRITES: u32 = 1;
 /// A mark store over lent octets, FF hex when fresh, of which at most the first 4,096 are used.
 ///
 /// The mark counts the zero bits of the used octets, the raises left count their one bits. Whatever stands in the memory means a strip.
+// That a call keeps the lent memory is one equation in each contract, `place`: a definition would say it no shorter.
 #[derive(Drop)]
 pub struct Strip<'a> {
     octets: &'a mut [u8],
@@ -45,12 +46,14 @@ impl MarkStore for Strip<'_> {
 
     /// How many bits of the used octets are 0.
     fn read(&self) -> u32 {
-        used_octets(self.octets).iter().map(|octet| octet.count_zeros()).sum()
+        let octets = used_octets(self.octets);
+        octets.iter().map(|octet| octet.count_zeros()).sum()
     }
 
     /// How many bits of the used octets are 1.
     fn raises_left(&self) -> u32 {
-        used_octets(self.octets).iter().map(|octet| octet.count_ones()).sum()
+        let octets = used_octets(self.octets);
+        octets.iter().map(|octet| octet.count_ones()).sum()
     }
 
     /// Clears the lowest one bit of the first used octet that has any. Refused with 10 when no bit is left to clear, and only then.
@@ -86,11 +89,15 @@ fn used_octets(octets: &[u8]) -> &[u8]
 fn first_set(octets: &[u8]) -> Result<usize, Refusal>
     ensures { MatchResult result (FirstSet (used octets.now)) (λ e. (number e ≡ 10) × AllClear (used octets.now)) }
 {
-    used_octets(octets).iter().position(|octet| *octet > 0).ok_or(Refusal::NoRaiseLeft)
+    used_octets(octets)
+        .iter()
+        .position(|octet| *octet > 0)
+        .ok_or(Refusal::NoRaiseLeft)
 }
 
 // The one write of a raise: clears the lowest one bit of the first used octet that has any, if the write goes through.
 // Refused with 10 when no used octet has a one bit, and only then; nothing changes then.
+// `written` stays a parameter: a raise and a torn raise search and refuse alike, and two functions would say that twice.
 fn clear_lowest(octets: &mut [u8], written: bool) -> Result<(), Refusal>
     ensures { Granted strip_left octets.old octets.new (octets.new ≡ raised_by (if written then 1 else 0) octets.old) result }
 {
