@@ -33,13 +33,9 @@ fn send_all<E: Engine, S: MarkStore>(
     frames: &mut [[u8; 16]; 3],
     at: &str,
 ) {
-    for i in 0..3usize {
-        assert_eq!(rt;
-            sender.send(&PLAINS[i], &mut frames[i]),
-            Ok(15),
-            "a frame's size, {at}"
-        );
-        assert_eq!(rt; frames[i][15], 0, "past the frame, {at}");
+    for (plain, frame) in PLAINS.iter().zip(frames.iter_mut()) {
+        assert_eq!(rt; sender.send(plain, frame), Ok(15), "a frame's size, {at}");
+        assert_eq!(rt; frame[15], 0, "past the frame, {at}");
     }
 }
 
