@@ -14,6 +14,7 @@ fn forbidden<E: Engine>(key: &[u8], label: &[u8]) -> bool
     requires label_length { length label.now ≡ E.cipher.figures.label }
     ensures { result ≡ E.cipher.forbids (session_iv label.now 0) }
 {
+    // an array with the length of what was written into it: the link allocates nothing
     let mut iv = [0; 16];
     match session_iv(label, 0, &mut iv) {
         Ok(n) => E::check(key, &iv[0..n]).is_err(),
@@ -21,6 +22,7 @@ fn forbidden<E: Engine>(key: &[u8], label: &[u8]) -> bool
     }
 }
 
+// Key, label and allowance stay three parameters: they are those of the link's calls, by the rules.
 /// The checks of a key, a label and an allowance: refused with the first that applies of 1, 2, 3 and 4.
 pub fn check_pairing<E: Engine>(key: &[u8], label: &[u8], allowance: u32) -> Result<(), Refusal>
     ensures { Checked (pair_refusal E.cipher key.now label.now allowance) result }

@@ -2,6 +2,7 @@
 ghost use Rattle.std.specs.Prelude.{◌≡◌, ◌≤◌, length, take};
 
 /// Key, label and allowance of an accepted pair. The cipher's figures say how many octets of each array are meant.
+// Arrays at their largest size and no `Vec`: the link allocates nothing.
 #[derive(Clone, Copy)]
 pub struct Pairing {
     /// The key, from the first octet on.

@@ -43,6 +43,7 @@ pub enum SenderCall {
 }
 
 /// What a call on a sender answered.
+// No `Result` with the refusal as its error: a call that the build does not admit is neither, and the cases are those of the definitions.
 #[derive(Clone, Copy, PartialEq, Eq, Debug)]
 pub enum SenderAnswer {
     /// An accepted open: the session's number.
@@ -66,7 +67,7 @@ pub struct SenderStep {
     pub call: SenderCall,
     /// The buffer that a send is handed for its frame. No other call writes into it.
     pub out: Vec<u8>,
-    /// What the call answered.
+    /// What the call answered; `NotAdmitted` until it was made, as `new` promises, which an `Option` would not.
     pub answer: SenderAnswer,
     /// The store's mark after the call.
     pub mark: u32,
@@ -109,6 +110,7 @@ pub enum ReceiverCall {
 }
 
 /// What a call on a receiver answered.
+// No `Result` with the refusal as its error: the cases are those of the definitions, and a `Result` would need a second enum for what is accepted.
 #[derive(Clone, Copy, PartialEq, Eq, Debug)]
 pub enum ReceiverAnswer {
     /// An accepted pair.

@@ -44,7 +44,7 @@ fn receive<F: Reversible>(
     }
 }
 
-// The frame that the call of an index wrote, if it wrote one.
+// The frame that the call of an index wrote, if it wrote one. Its size stands beside its buffer, as a run allocates nothing: each step is lent its buffer.
 fn frame_at(sent: &[SenderStep], call: usize) -> Option<&[u8]>
     ensures value { option_map (λ x. x.now) result ≡ frame_at sent.now call }
     ensures short { IfSome result (λ f. length f.now ≤ 1034) }
@@ -62,6 +62,7 @@ fn change_octets(octets: &mut [u8], change: &[u8])
     ensures { octets.new ≡ changed octets.old change.now }
 {
     let end = octets.len().min(change.len());
+    // by index: a proof knows no element that a zip with `iter_mut` lent once its loop is over
     for i in 0..end {
         octets[i] ^= change[i];
     }

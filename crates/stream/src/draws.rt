@@ -15,6 +15,7 @@ pub fn take_bits<E: Engine>(engine: &mut E, n: u32) -> u32
     let wanted = n.min(32);
     let mut have = 0u32;
     let mut word = 0u32;
+    // no `for`: each draw says how many bits it gave
     while have < wanted {
         let (bits, count) = engine.draw(wanted - have);
         word |= bits << have;
@@ -29,6 +30,7 @@ fn mix(octets: &mut [u8], word: u32)
         → slice_index octets.new i ≡ bit_xor (slice_index octets.old i) (word / 2 ^ (8 * i) % 256) }
 {
     let mut rest = word;
+    // no zip with the word's octets: a proof knows no element that a zip with `iter_mut` lent once its loop is over
     for x in octets.iter_mut() {
         *x ^= (rest & 0xff) as u8;
         rest >>= 8;
@@ -41,6 +43,7 @@ pub fn cover<E: Engine>(engine: &mut E, octets: &mut [u8])
     ensures covered { octets.new ≡ covering E.cipher (E.state engine.old) octets.old }
     ensures moves { E.state engine.new ≡ later E.cipher (8 * length octets.old) (E.state engine.old) }
 {
+    // not `chunks_mut(4)`: a proof knows no element that it lent once its loop is over
     for start in (0..octets.len()).step_by(4) {
         let end = octets.len().min(start + 4);
         let word = take_bits(engine, 8 * (end - start) as u32);
@@ -53,6 +56,7 @@ pub fn forward<E: Engine>(engine: &mut E, octets: u32)
     ensures { E.state engine.new ≡ later E.cipher (8 * octets) (E.state engine.old) }
 {
     let mut left = 8 * octets as u64;
+    // no `for`: each draw says how many states it moved on by
     while left > 0 {
         let (_, count) = engine.draw(left.min(32) as u32);
         left -= count as u64;
