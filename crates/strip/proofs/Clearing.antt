@@ -28,9 +28,11 @@ same_sum f g agree (x ∷ xs) octets =
 
 -- the zero bits and the one bits of octets, as the code counts them
 pub zeros_counted : (xs : List ℕ) → All (λ x. x < 256) xs → sum_by (λ x. count.ones (255 - x)) xs ≡ sum_of (λ x. zeros (bits 8 x)) xs
+unfolding sum_of
 zeros_counted xs octets = same_sum (λ x. count.ones (255 - x)) (λ x. zeros (bits 8 x)) zeros_of xs octets
 
 pub ones_counted : (xs : List ℕ) → All (λ x. x < 256) xs → sum_by count.ones xs ≡ sum_of (λ x. ones (bits 8 x)) xs
+unfolding sum_of
 ones_counted xs octets = same_sum count.ones (λ x. ones (bits 8 x)) ones_of xs octets
 
 -- a number that is not 0
@@ -65,6 +67,7 @@ cleared-length (x ∷ xs) =
 
 -- a clearing makes one one bit less
 cleared-ones : (xs : List ℕ) → 0 < sum_of (λ x. ones (bits 8 x)) xs → sum_of (λ x. ones (bits 8 x)) (cleared xs) + 1 ≡ sum_of (λ x. ones (bits 8 x)) xs
+unfolding sum_of
 cleared-ones [] some = absurd (omega arith)
 cleared-ones (x ∷ xs) some =
     let f : ℕ → ℕ = λ y. ones (bits 8 y) in
@@ -107,6 +110,7 @@ first_found xs (Some i) found = record { inside = found.0; not_zero = found.1 0;
 
 -- no raise is left where every octet is 0
 pub none_left : (octets : List ℕ) → AllClear (used octets) → strip_left octets ≡ 0
+unfolding sum_of
 none_left octets clear =
     let none : All (λ x. ones (bits 8 x) ≤ 0) (used octets) =
     All-from_get_or (λ x. ones (bits 8 x) ≤ 0) (used octets) 0 (λ k h. omega (arith, ap (λ x. ones (bits 8 x)) (clear k h), no_one)) in
@@ -128,6 +132,7 @@ module _ (octets : List ℕ) {i : ℕ} (f : FirstSet (used octets) i) where
 
   -- a raise is left where an octet is not 0
   pub some_left : get_or octets i 0 < 256 → 0 < strip_left octets
+  unfolding sum_of
   some_left fits = omega (arith, one fits, get_or-le-sum_by (λ x. ones (bits 8 x)) (used octets) i 0 f.inside)
 
   -- the write of the code

@@ -21,8 +21,7 @@ unchanged s xs e = ap (λ ys. record { octets = record { ref_ptr = s.octets.ref_
 
 -- one write is made, or none
 some_or_none : (c junk : ℕ) → (writes_made 1 c junk ≡ 1) ⊎ (writes_made 1 c junk ≡ 0)
-some_or_none c junk =
-    grind (arith, nat_tests)
+some_or_none c junk = grind (arith, nat_tests)
 
 pub torn : (s s' : Strip) (c junk : ℕ) → 0 < left_in s → memory s' ≡ raised_by (writes_made 1 c junk) (memory s) → Torn mark_in left_in 1 c s s'
 torn s s' c junk some e =

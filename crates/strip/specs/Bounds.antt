@@ -19,6 +19,7 @@ eight x = zeros-and-ones (bits 8 x)
 
 -- both sums together, over any octets
 pub all_bits : (xs : List ℕ) → sum_of (λ x. zeros (bits 8 x)) xs + sum_of (λ x. ones (bits 8 x)) xs ≡ 8 * length xs
+unfolding sum_of
 all_bits [] = refl
 all_bits (x ∷ xs) = omega (arith, eight x, all_bits xs, sum_by-cons (λ y. zeros (bits 8 y)) x xs, sum_by-cons (λ y. ones (bits 8 y)) x xs)
 

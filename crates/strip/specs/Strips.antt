@@ -18,7 +18,7 @@ zeros (true ∷ xs) = zeros xs
 zeros (false ∷ xs) = suc (zeros xs)
 
 -- the sum of a number of each octet
-abbrev pub sum_of : (ℕ → ℕ) → List ℕ → ℕ
+unfoldable pub sum_of : (ℕ → ℕ) → List ℕ → ℕ
 sum_of f octets = sum_by f octets
 
 -- M counts the zero bits of the used octets, R their one bits
