@@ -1,13 +1,13 @@
 //! Why a request is refused, and the line that is printed for it.
 ghost use Rattle.std.specs.Prelude.{◌≡◌, Some};
 ghost use Rattle.workshop.specs.Fields.{field_name};
-ghost use Rattle.workshop.specs.Messages.{hex_fault_text, word_fault_text, fault_text};
+ghost use Rattle.workshop.specs.Messages.{word_fault_text, fault_text};
 ghost use Rattle.workshop.specs.declared.fault.Fault.TheVariants.{NoMemory};
 
 use crate::field::{Field, WordFault};
-use crate::hex::HexFault;
 use std::alloc::AllocError;
 use std::fmt;
+use texts::hex::HexFault;
 
 /// What is wrong with a request.
 #[derive(Clone, Copy, PartialEq, Eq, Debug)]
@@ -52,22 +52,6 @@ impl fmt::Display for Field {
 
     fn fmt<W: fmt::Write>(&self, f: &mut fmt::Formatter<W>) -> fmt::Result {
         f.write_str(self.name())
-    }
-}
-
-/// What is wrong with hexadecimal digits, in a few words.
-impl fmt::Display for HexFault {
-    ghost output = { λ x. Some (hex_fault_text x) };
-
-    fn fmt<W: fmt::Write>(&self, f: &mut fmt::Formatter<W>) -> fmt::Result {
-        match *self {
-            HexFault::BadDigit(index) => write!(
-                f,
-                "no hexadecimal digit at byte {index} (counted from 0)"
-            ),
-            HexFault::OddCount => f.write_str("an odd count of hexadecimal digits"),
-            HexFault::NoMemory => f.write_str("no memory"),
-        }
     }
 }
 

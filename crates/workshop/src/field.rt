@@ -1,21 +1,6 @@
 //! The fields of a request, and the words that give them.
 ghost use Rattle.std.specs.Prelude.{◌≡◌, ℕ, List, ◌∷◌, ◌++◌, MatchBool, MatchOption, MatchResult, ◌≢◌};
-ghost use Rattle.workshop.specs.Fields.{field_name, cipher_word, Plain, Gives, WordRefused, DecimalOf, Given, IsGiven, NotGiven};
-
-/// A cipher, as one of the engines runs it.
-#[derive(Clone, Copy, PartialEq, Eq, Debug)]
-pub enum CipherName {
-    /// `grain128`
-    Grain128,
-    /// `grain128x32`
-    Grain128Wide,
-    /// `grain128a`
-    Grain128a,
-    /// `grain128ax32`
-    Grain128aWide,
-    /// `sprout`
-    Sprout,
-}
+ghost use Rattle.workshop.specs.Fields.{field_name, Plain, Gives, WordRefused, Given, IsGiven, NotGiven};
 
 /// A field of a request.
 #[derive(Clone, Copy, PartialEq, Eq, Debug)]
@@ -84,30 +69,6 @@ pub(crate) fn field_named(name: &str) -> Option<Field>
         "text" => Some(Field::Text),
         _ => None,
     }
-}
-
-/// The cipher that a word asks for: `grain128`, `grain128x32`, `grain128a`, `grain128ax32` or `sprout`, and none for any other word.
-pub(crate) fn cipher_named(word: &str) -> Option<CipherName>
-    ensures { MatchOption result ((c : CipherName) → word.now ≢ cipher_word c) (λ c. word.now ≡ cipher_word c) }
-{
-    match word {
-        "grain128" => Some(CipherName::Grain128),
-        "grain128x32" => Some(CipherName::Grain128Wide),
-        "grain128a" => Some(CipherName::Grain128a),
-        "grain128ax32" => Some(CipherName::Grain128aWide),
-        "sprout" => Some(CipherName::Sprout),
-        _ => None,
-    }
-}
-
-/// The number that decimal digits write, if the text is one or more digits and nothing else and the number fits 32 bits.
-pub(crate) fn decimal_number(text: &str) -> Option<u32>
-    ensures { MatchOption result ((n : ℕ) → DecimalOf text.now n → ⊥) (DecimalOf text.now) }
-{
-    if text.starts_with('+') {
-        return None;
-    }
-    text.parse::<u32>().ok()
 }
 
 /// What stands before and after the first `=` of a word, if it has one.

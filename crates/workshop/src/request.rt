@@ -1,15 +1,15 @@
 //! What is asked of the tool, read from words of the form `name=value`.
 ghost use Rattle.std.specs.Prelude.{length, Some, MatchResult};
-ghost use Rattle.workshop.specs.Fields.{cipher_word, Given, Apart};
+ghost use Rattle.texts.specs.Names.{cipher_word};
+ghost use Rattle.workshop.specs.Fields.{Given, Apart};
 ghost use Rattle.workshop.specs.Requests.{RequestRefused, OctetsIn, NumberIn, NumberOr, NonceIn, MessageIn, Asked};
 ghost use Rattle.workshop.specs.declared.field.Field.TheVariants.{Cipher, Key};
 
 use crate::fault::Fault;
-use crate::field::{
-    CipherName, Field, cipher_named, decimal_number, is_given, read_word, value_of,
-};
-use crate::hex::{HexFault, hex_octets};
+use crate::field::{Field, is_given, read_word, value_of};
 use std::alloc::Global;
+use texts::hex::{HexFault, hex_octets};
+use texts::names::{CipherName, cipher_named, decimal_number};
 
 /// The number, used once, that a session's keystream starts from.
 #[derive(Drop)]
