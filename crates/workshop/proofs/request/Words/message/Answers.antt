@@ -1,4 +1,4 @@
-use Rattle.workshop.proofs.request.read_message.Goals as goal
+use Rattle.workshop.proofs.request.Words.message.Goals as goal
 
 pub returns-in-Some-Some : goal.returns-in-Some-Some
 returns-in-Some-Some c =
