@@ -1,11 +1,8 @@
 -- Calls that are not refused; the IVs of a label.
-use Rattle.std.proofs.Common.{◌≡◌, ℕ, ◌+◌, ◌-◌, ◌≤◌, Bool, true, false, List, [], ◌∷◌, ◌++◌, length, take, drop, is_some, Some, None, Ok, Err, Option, Result, sym, refl, ap, ◌∙◌, arith, lit≤, take_at, MatchResult}
-use native.Mathlib.Nat.{sub-zero}
-use Rattle.std.specs.Option.{option_map}
+use Rattle.std.proofs.Common.{◌≡◌, ℕ, ◌+◌, ◌≤◌, Bool, true, false, List, [], ◌∷◌, length, None, sym, refl, ◌∙◌, arith, lit≤}
 use Rattle.std.proofs.lemmas.Bool.{not-false, eqb-true, eqb-false, eq-eqb, ltb-false, or_parts}
 use Rattle.stream.specs.Ciphers.{Cipher, load_refusal, session_iv}
-use Rattle.stream.specs.Refusals.{number, first_refusal}
-use Rattle.stream.specs.declared.refusal.Refusal.{Refusal}
+use Rattle.stream.specs.Refusals.{first_refusal}
 use Rattle.link.specs.Sessions.{pairing_tests, pair_refusal}
 
 -- no test applies
@@ -80,43 +77,3 @@ loads c key label allowance n e =
     let p = paired c key label allowance e in
     let low : 1 ≤ length label = omega (arith, p.label_is, c.bounds.label_low) in
     load_of c key label n p.key_is p.label_is ∙ passed _ 3 [] (forbids_any c label n 0 low ∙ p.allowed)
-
--- a session's IV at the start of a buffer
-pub iv_in : (label before iv : List ℕ) (session n : ℕ)
-    → n ≡ length label + 4 → iv ≡ session_iv label session ++ drop n before → take (n - 0) iv ≡ session_iv label session
-iv_in label before iv session n size held =
-    rw (sub-zero, held) (take_at _ _ n (length-session_iv label session ∙ sym size))
-
-some_mapped : (r : Option Refusal) → is_some r ≡ is_some (option_map number r)
-some_mapped None = refl
-some_mapped (Some x) = refl
-
-some_first : (b : Bool) → is_some (first_refusal ((b, 3) ∷ [])) ≡ b
-some_first true = refl
-some_first false = refl
-
--- an engine's answer for the IV of a label tells whether it is forbidden
-pub tells_forbidden : (c : Cipher) (key label iv : List ℕ) (r : Option Refusal)
-    → length key ≡ c.figures.key → length label ≡ c.figures.label → iv ≡ session_iv label 0
-    → option_map number r ≡ load_refusal c key iv → is_some r ≡ c.forbids (session_iv label 0)
-tells_forbidden c key label iv r k l held told =
-    some_mapped r ∙ ap is_some (told ∙ ap (load_refusal c key) held ∙ load_of c key label 0 k l) ∙ some_first _
-
--- a load of a session's IV that is not refused gives the start of the session
-pub started : (c : Cipher) (key iv of-session : List ℕ) (s : c.State) (Else : Type 0) (r : Result (Unit {0}) Refusal)
-    → iv ≡ of-session
-    → MatchResult r (λ _. (load_refusal c key iv ≡ None) × (s ≡ c.start key iv)) (λ e. (load_refusal c key iv ≡ Some (number e)) × Else)
-    → load_refusal c key of-session ≡ None → s ≡ c.start key of-session
-started c key iv of-session s Else (Ok _) held told none = told.1 ∙ ap (c.start key) held
-started c key iv of-session s Else (Err e) held told none =
-    let z : ◌≡◌ {A = Option ℕ} (Some (number e)) None = sym told.0 ∙ ap (load_refusal c key) held ∙ none in
-    let y : ◌≡◌ {A = ℕ} 0 1 = cc in
-    absurd (omega (arith, y))
-
--- a load of a session's IV that is refused leaves the engine as it was
-pub kept : (c : Cipher) (key iv of-session : List ℕ) (Done Same : Type 0) (r : Result (Unit {0}) Refusal)
-    → iv ≡ of-session
-    → MatchResult r (λ _. (load_refusal c key iv ≡ None) × Done) (λ e. (load_refusal c key iv ≡ Some (number e)) × Same)
-    → (load_refusal c key of-session ≡ None → ⊥) → Same
-kept c key iv of-session Done Same (Ok _) held told some = absurd (some (sym (ap (load_refusal c key) held) ∙ told.0))
-kept c key iv of-session Done Same (Err e) held told some = told.1

@@ -1,8 +1,7 @@
 //! The checks of a key, a label and an allowance, and the load of a session.
 ghost use Rattle.std.specs.Prelude.{◌≡◌, length, None, ◌≢◌};
-ghost use Rattle.std.specs.Option.{option_map};
 ghost use Rattle.stream.specs.Ciphers.{load_refusal, session_iv};
-ghost use Rattle.stream.specs.Refusals.{number};
+ghost use Rattle.stream.specs.Refusals.{Checked};
 ghost use Rattle.link.specs.Sessions.{pair_refusal};
 
 use stream::engine::Engine;
@@ -11,31 +10,32 @@ use stream::session::session_iv;
 
 // Whether the IVs of a label are forbidden, where key and label have the cipher's lengths.
 fn forbidden<E: Engine>(key: &[u8], label: &[u8]) -> bool
-    requires { (length key.now ≡ E.cipher.figures.key) × (length label.now ≡ E.cipher.figures.label) }
+    requires key_length { length key.now ≡ E.cipher.figures.key }
+    requires label_length { length label.now ≡ E.cipher.figures.label }
     ensures { result ≡ E.cipher.forbids (session_iv label.now 0) }
 {
     let mut iv = [0; 16];
     match session_iv(label, 0, &mut iv) {
-        Ok(n) => E::refusal(key, &iv[0..n]).is_some(),
+        Ok(n) => E::check(key, &iv[0..n]).is_err(),
         Err(_) => true,
     }
 }
 
-/// The refusal that a key, a label and an allowance meet, if any: the first that applies of 1, 2, 3 and 4.
-pub fn pairing_refusal<E: Engine>(key: &[u8], label: &[u8], allowance: u32) -> Option<Refusal>
-    ensures { option_map number result ≡ pair_refusal E.cipher key.now label.now allowance }
+/// The checks of a key, a label and an allowance: refused with the first that applies of 1, 2, 3 and 4.
+pub fn check_pairing<E: Engine>(key: &[u8], label: &[u8], allowance: u32) -> Result<(), Refusal>
+    ensures { Checked (pair_refusal E.cipher key.now label.now allowance) result }
 {
     let figures = E::figures();
     if key.len() != figures.key {
-        Some(Refusal::KeyLength)
+        Err(Refusal::KeyLength)
     } else if label.len() != figures.label {
-        Some(Refusal::LabelLength)
+        Err(Refusal::LabelLength)
     } else if forbidden::<E>(key, label) {
-        Some(Refusal::ForbiddenBit)
+        Err(Refusal::ForbiddenBit)
     } else if allowance == 0 || figures.ceiling < allowance {
-        Some(Refusal::BadAllowance)
+        Err(Refusal::BadAllowance)
     } else {
-        None
+        Ok(())
     }
 }
 

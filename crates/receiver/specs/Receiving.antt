@@ -6,7 +6,7 @@ use Rattle.link.specs.Sessions.{state_at, pair_refusal}
 use Rattle.link.specs.Receivers.{Known, Stands, receive_refusal, distance_to}
 use Rattle.receiver.specs.declared.Received.{Received}
 use Rattle.receiver.specs.declared.Receiver.{Receiver}
-use Rattle.receiver.specs.declared.fields.Fields.{Fields}
+use Rattle.receiver.specs.declared.frame.Frame.{Frame}
 use Rattle.receiver.specs.declared.pairing.Pairing.{Pairing}
 
 -- what the last accepted pair told: of each array as many octets as the cipher has
@@ -43,32 +43,21 @@ pub record Pairs (c : Cipher) (before after : Held c) (key label : List ℕ) (al
 abbrev pub frame_refusal : ℕ → List ℕ → ℕ → Option ℕ
 frame_refusal allowance f room = receive_refusal (Some (record { key = []; label = []; allowance = allowance })) f room
 
--- The fields of octets with a whole header.
-pub record Header (f : List ℕ) (h : Fields) : Type 0 where
+-- A frame that is not refused, and what its checks found.
+pub record Admits (allowance : ℕ) (f : List ℕ) (room : ℕ) (h : Frame) : Type 0 where
   pub session : h.session ≡ frame_session f
   pub place : h.place ≡ frame_place f
-  pub size : h.length ≡ frame_length f
-
--- The fields of a frame that is not refused, and what its checks found.
-pub record Admits (allowance : ℕ) (f : List ℕ) (room : ℕ) (h : Fields) : Type 0 where
-  pub header : Header f h
-  pub whole : length f ≡ 10 + h.length
-  pub within : h.place + h.length ≤ allowance
-  pub fits : h.length ≤ room
+  pub payload : h.payload.now ≡ frame_payload f
+  pub size : length (frame_payload f) ≡ frame_length f
+  pub short : frame_length f ≤ 1024
+  pub within : frame_place f + frame_length f ≤ allowance
+  pub fits : frame_length f ≤ room
   pub allowed : frame_refusal allowance f room ≡ None
 
 -- the state is that of a place in a session under the key and label that were told
 abbrev pub Reached : (c : Cipher) → Option Known → ℕ → ℕ → c.State → Type 0
 Reached c None session place x = ⊥
 Reached c (Some k) session place x = x ≡ state_at c k.key k.label session place
-
--- Octets uncovered at a place of a session, and the engine moved past them. The plain comes from a state that is
--- the state of that place wherever the engine stood in place before; then it stands in place afterwards.
-pub record Opens (c : Cipher) (before after : Held c) (session place : ℕ) (payload out written : List ℕ) : Type 0 where
-  pub from : c.State
-  pub plain : written ≡ cover c from payload ++ drop (length payload) out
-  pub reached : InPlace c before → Reached c before.pairing session place from
-  pub stands : InPlace c before → InPlace c after
 
 -- The parts of an accepted receive.
 pub record Accepts (c : Cipher) (before after : Held c) (f out written : List ℕ) (r : Received) : Type 0 where

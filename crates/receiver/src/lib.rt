@@ -7,15 +7,14 @@ ghost use Rattle.link.specs.Receivers.{receive_refusal};
 ghost use Rattle.link.specs.Sessions.{pair_refusal};
 ghost use Rattle.receiver.specs.Receiving.{InPlace, Pairs, Accepts, holds, known};
 
-use crate::fields::admitted;
+use crate::frame::Frame;
 use crate::pairing::Pairing;
-use crate::stages::opened;
 use crate::standing::Standing;
-use link::pairing::pairing_refusal;
+use link::pairing::check_pairing;
 use stream::engine::Reversible;
 use stream::refusal::Refusal;
 
-mod fields;
+mod frame;
 mod pairing;
 mod stages;
 mod standing;
@@ -64,14 +63,10 @@ impl<E: Reversible> Receiver<E> {
             (λ e. (pair_refusal E.Engine.cipher key.now label.now allowance ≡ Some (number e))
             × (self.new ≡ self.old)) }
     {
-        match pairing_refusal::<E>(key, label, allowance) {
-            Some(e) => Err(e),
-            None => {
-                self.pairing = Some(Pairing::told(key, label, allowance));
-                self.standing = Standing::unset();
-                Ok(())
-            }
-        }
+        check_pairing::<E>(key, label, allowance)?;
+        self.pairing = Some(Pairing::told(key, label, allowance));
+        self.standing = Standing::unset();
+        Ok(())
     }
 
     /// Opens a frame: writes its plain at the start of the buffer and nothing beyond, and answers how many octets that is
@@ -92,27 +87,13 @@ impl<E: Reversible> Receiver<E> {
         let Some(pairing) = self.pairing else {
             return Err(Refusal::NeverPaired);
         };
-        match admitted(frame, pairing.allowance, out.len()) {
-            Ok(fields) => {
-                let payload = &frame[10..frame.len()];
-                let distance = opened(
-                    &mut self.engine,
-                    pairing,
-                    self.standing,
-                    fields,
-                    payload,
-                    out,
-                );
-                self.standing = Standing {
-                    session: Some(fields.session),
-                    place: fields.place + fields.length,
-                };
-                Ok(Received {
-                    length: fields.length,
-                    distance,
-                })
-            }
-            Err(e) => Err(e),
-        }
+        let frame = Frame::admitted(frame, pairing.allowance, out.len())?;
+        self.turn(pairing, frame.session);
+        let distance = self.reach(frame.place);
+        self.uncover(frame.payload, out);
+        Ok(Received {
+            length: frame.payload.len() as u32,
+            distance,
+        })
     }
 }

@@ -16,7 +16,9 @@ pub struct Pairing {
 impl Pairing {
     /// The pairing that holds a key, a label and an allowance.
     pub(crate) fn told(key: &[u8], label: &[u8], allowance: u32) -> Pairing
-        requires { (length key.now ≤ 32) × ((length label.now ≤ 12) × (allowance ≤ 16777216)) }
+        requires key { length key.now ≤ 32 }
+        requires label { length label.now ≤ 12 }
+        requires allowance { allowance ≤ 16777216 }
         ensures holds_key { take (length key.now) result.key ≡ key.now }
         ensures holds_label { take (length label.now) result.label ≡ label.now }
         ensures holds_allowance { result.allowance ≡ allowance }

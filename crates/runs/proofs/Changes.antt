@@ -1,5 +1,6 @@
 -- A change added to octets one by one, and the frame that a step of an index wrote.
 use Rattle.std.proofs.Common.{◌≡◌, ℕ, zero, suc, ◌+◌, ◌-◌, ◌<◌, ◌≤◌, min, List, [], ◌∷◌, length, get_or, take, set, None, vec_items, sym, refl, ap, ◌∙◌, subst, add-one, arith}
+use Rattle.std.proofs.lemmas.List.{take_min}
 use lib.Bits.{bit_xor}
 use Rattle.runs.specs.Readings.{changed, frame_at, frame_in}
 use Rattle.runs.specs.declared.calls.SenderAnswer.{SenderAnswer}
@@ -53,15 +54,8 @@ frame_none (Refused e) out other = refl
 frame_none NotAdmitted out other = refl
 
 -- the first n octets, or all where there are fewer
-least : (n : ℕ) (xs : List ℕ) → take (min n (length xs)) xs ≡ take n xs
-least zero xs = let e : min 0 (length xs) ≡ 0 = omega arith in subst (λ k. take k xs ≡ []) (sym e) refl
-least (suc n) [] = let e : min (suc n) 0 ≡ 0 = omega arith in subst (λ (k : ℕ). take {A = ℕ} k [] ≡ []) (sym e) refl
-least (suc n) (x ∷ xs) =
-    let e : min (suc n) (suc (length xs)) ≡ suc (min n (length xs)) = omega arith in
-    subst (λ k. take k (x ∷ xs) ≡ x ∷ take n xs) (sym e) (ap (λ ys. x ∷ ys) (least n xs))
-
 pub take_least : (n m : ℕ) (xs : List ℕ) → m ≡ min n (length xs) → take (m - 0) xs ≡ take n xs
-take_least n m xs e = ap (λ k. take k xs) (let h : m - 0 ≡ min n (length xs) = omega arith in h) ∙ least n xs
+take_least n m xs e = ap (λ k. take k xs) (let h : m - 0 ≡ min n (length xs) = omega arith in h) ∙ take_min n xs
 
 -- what holds of a buffer holds of the `Vec` that lent it
 pub lent : (R : List ℕ → List ℕ → Type 0) (from before to after : List ℕ) → from ≡ before → after ≡ to → R from to → R before after

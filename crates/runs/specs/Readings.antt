@@ -11,6 +11,7 @@ use Rattle.histories.specs.Calls.{Call, opening, torn_opening, sending, closing,
 use Rattle.histories.specs.Histories.{marks_of, Sender, at_rest, in_session, Step, Receiver, receiver, Receives}
 use Rattle.runs.specs.declared.stage.Stage.{Stage}
 use Rattle.runs.specs.declared.stage.Stage.TheVariants.{AtRest, InSession}
+use Rattle.runs.specs.declared.calls.Pairing.{Pairing}
 use Rattle.runs.specs.declared.calls.SenderCall.{SenderCall}
 use Rattle.runs.specs.declared.calls.SenderCall.TheVariants.{Open, TornOpen, Send, Close, PowerCut}
 use Rattle.runs.specs.declared.calls.SenderAnswer.{SenderAnswer}
@@ -24,8 +25,8 @@ use Rattle.runs.specs.declared.calls.ReceiverStep.{ReceiverStep}
 
 -- a call on a sender with a buffer of so many octets
 abbrev pub call_of : SenderCall → ℕ → Call
-call_of (Open key label allowance) room = opening (vec_items key) (vec_items label) allowance
-call_of (TornOpen key label allowance writes junk) room = torn_opening (vec_items key) (vec_items label) allowance writes junk
+call_of (Open p) room = opening (vec_items p.key) (vec_items p.label) p.allowance
+call_of (TornOpen p writes junk) room = torn_opening (vec_items p.key) (vec_items p.label) p.allowance writes junk
 call_of (Send plain) room = sending (vec_items plain) room
 call_of Close room = closing
 call_of PowerCut room = power_cut
@@ -75,17 +76,17 @@ pub record Turned (c : Cipher) (w : ℕ) (s : Sender c) (before after : SenderSt
   pub acted : Acted c w s before.call (vec_items before.out) (vec_items after.out) after.answer t
   pub marks : marks_of c t ≡ (after.mark, after.left)
 
--- Steps in a row.
-abbrev pub Turns : (c : Cipher) → ℕ → Sender c → List SenderStep → List SenderStep → Sender c → Type 0
-Turns c w s [] [] t = s ≡ t
-Turns c w s [] (b ∷ bs) t = ⊥
-Turns c w s (a ∷ rest) [] t = ⊥
-Turns c w s (a ∷ rest) (b ∷ bs) t = (u : Sender c) × Turned c w s a b u × Turns c w u rest bs t
+-- Steps in a row, each as R says, from one standing to the next.
+abbrev pub Row : {P X : Type 0} → (P → X → X → P → Type 0) → P → List X → List X → P → Type 0
+Row R s [] [] t = s ≡ t
+Row R s [] (b ∷ bs) t = ⊥
+Row R s (a ∷ rest) [] t = ⊥
+Row {P} R s (a ∷ rest) (b ∷ bs) t = (u : P) × R s a b u × Row R u rest bs t
 
 -- every step was made, from this sender on
 pub record SenderRan (c : Cipher) (w : ℕ) (from : Sender c) (before after : List SenderStep) : Type 0 where
   pub reached : Sender c
-  pub turns : Turns c w from before after reached
+  pub turns : Row (Turned c w) from before after reached
 
 -- the calls with their answers
 unfoldable pub entries : List SenderStep → List SenderStep → List Entry
@@ -114,9 +115,13 @@ changed [] cs = []
 changed (x ∷ xs) [] = x ∷ xs
 changed (x ∷ xs) (c ∷ cs) = bit_xor x c ∷ changed xs cs
 
+-- a pair
+abbrev pub pairing_of : Pairing → Receipt
+pairing_of p = pairing (vec_items p.key) (vec_items p.label) p.allowance
+
 -- a call on a receiver with a buffer of so many octets, where a sender's calls were made; none where no frame was written that could be delivered
 abbrev pub receipt_of : List SenderStep → ReceiverCall → ℕ → Option Receipt
-receipt_of steps (Pair key label allowance) room = Some (pairing (vec_items key) (vec_items label) allowance)
+receipt_of steps (Pair p) room = Some (pairing_of p)
 receipt_of steps (Receive octets) room = Some (receiving (vec_items octets) room)
 receipt_of steps (Deliver call change) room = option_map (λ f. receiving (changed f (vec_items change)) room) (frame_at steps call)
 
@@ -153,16 +158,10 @@ pub record Taken (c : Cipher) (steps : List SenderStep) (s : Receiver c) (before
   pub call : after.call ≡ before.call
   pub handled : Handled c steps s before.call (vec_items before.out) (vec_items after.out) after.answer t
 
--- Steps in a row.
-abbrev pub Comings : (c : Cipher) → List SenderStep → Receiver c → List ReceiverStep → List ReceiverStep → Receiver c → Type 0
-Comings c steps s [] [] t = s ≡ t
-Comings c steps s [] (b ∷ bs) t = ⊥
-Comings c steps s (a ∷ rest) [] t = ⊥
-Comings c steps s (a ∷ rest) (b ∷ bs) t = (u : Receiver c) × Taken c steps s a b u × Comings c steps u rest bs t
-
+-- every step was made, from this receiver on
 pub record ReceiverRan (c : Cipher) (steps : List SenderStep) (from : Receiver c) (before after : List ReceiverStep) : Type 0 where
   pub reached : Receiver c
-  pub comings : Comings c steps from before after reached
+  pub comings : Row (Taken c steps) from before after reached
 
 -- a call with its answer, where one was made
 abbrev pub event_of : Option Receipt → Option ReceiverAnswer → List ℕ → List Event

@@ -6,26 +6,26 @@ use crate::size::FrameSize;
 use receiver::Received;
 use stream::refusal::Refusal;
 
+/// A key, a label and an allowance, as an open, a torn open and a pair take them.
+#[derive(Drop)]
+pub struct Pairing {
+    /// The octets of the key.
+    pub key: Vec<u8>,
+    /// The octets of the label.
+    pub label: Vec<u8>,
+    /// The allowance in octets.
+    pub allowance: u32,
+}
+
 /// A call on a sender.
 #[derive(Drop)]
 pub enum SenderCall {
     /// Open a session.
-    Open {
-        /// The octets of the key.
-        key: Vec<u8>,
-        /// The octets of the label.
-        label: Vec<u8>,
-        /// The allowance in octets.
-        allowance: u32,
-    },
+    Open(Pairing),
     /// Open a session, with the power failing in the store's raise.
     TornOpen {
-        /// The octets of the key.
-        key: Vec<u8>,
-        /// The octets of the label.
-        label: Vec<u8>,
-        /// The allowance in octets.
-        allowance: u32,
+        /// The key, the label and the allowance.
+        pairing: Pairing,
         /// How many of the raise's writes go through.
         writes_done: u32,
         /// What is left where the store was writing.
@@ -93,14 +93,7 @@ impl SenderStep {
 #[derive(Drop)]
 pub enum ReceiverCall {
     /// Pair the receiver.
-    Pair {
-        /// The octets of the key.
-        key: Vec<u8>,
-        /// The octets of the label.
-        label: Vec<u8>,
-        /// The allowance in octets.
-        allowance: u32,
-    },
+    Pair(Pairing),
     /// Hand octets to the receiver.
     Receive {
         /// The octets that come.

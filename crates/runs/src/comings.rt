@@ -2,27 +2,26 @@
 ghost use Rattle.std.specs.Prelude.{◌≡◌, ℕ, ◌≤◌, List, length, IfSome, Some};
 ghost use Rattle.std.specs.Option.{option_map};
 ghost use Rattle.receiver.specs.Receiving.{holds};
-ghost use Rattle.histories.specs.Calls.{came, pairing, receiving};
+ghost use Rattle.histories.specs.Calls.{came, receiving};
 ghost use Rattle.histories.specs.Histories.{Receives};
-ghost use Rattle.runs.specs.Readings.{Beyond, Handled, Taken, changed, frame_at, octets_opened, outcome_of, receiver_as};
+ghost use Rattle.runs.specs.Readings.{Beyond, Handled, Taken, changed, frame_at, octets_opened, outcome_of, pairing_of, receiver_as};
 
-use crate::calls::{ReceiverAnswer, ReceiverCall, ReceiverStep, SenderAnswer, SenderStep};
+use crate::calls::{Pairing, ReceiverAnswer, ReceiverCall, ReceiverStep, SenderAnswer, SenderStep};
 use receiver::Receiver;
 use stream::engine::Reversible;
 
-fn pair<F: Reversible>(
-    receiver: &mut Receiver<F>,
-    key: &[u8],
-    label: &[u8],
-    allowance: u32,
-) -> ReceiverAnswer
+fn pair<F: Reversible>(receiver: &mut Receiver<F>, pairing: &Pairing) -> ReceiverAnswer
     ensures step { (out : List ℕ) → Receives F.Engine.cipher
         (receiver_as F.Engine.cipher (holds F.Engine.cipher F.Engine.state receiver.old))
-        (came (pairing key.now label.now allowance) (outcome_of result out))
+        (came (pairing_of pairing.now) (outcome_of result out))
         (receiver_as F.Engine.cipher (holds F.Engine.cipher F.Engine.state receiver.new)) }
     ensures unwritten { octets_opened (Some result) ≡ 0 }
 {
-    match receiver.pair(key, label, allowance) {
+    match receiver.pair(
+        pairing.key.as_slice(),
+        pairing.label.as_slice(),
+        pairing.allowance,
+    ) {
         Ok(()) => ReceiverAnswer::Paired,
         Err(refusal) => ReceiverAnswer::Declined(refusal),
     }
@@ -50,17 +49,12 @@ fn frame_at(sent: &[SenderStep], call: usize) -> Option<&[u8]>
     ensures value { option_map (λ x. x.now) result ≡ frame_at sent.now call }
     ensures short { IfSome result (λ f. length f.now ≤ 1034) }
 {
-    if call >= sent.len() {
+    let step = sent.get(call)?;
+    let SenderAnswer::Sent(size) = step.answer else {
         return None;
-    }
-    let step = &sent[call];
-    match step.answer {
-        SenderAnswer::Sent(size) => {
-            let out = step.out.as_slice();
-            Some(&out[0..size.octets.min(out.len())])
-        }
-        _ => None,
-    }
+    };
+    let out = step.out.as_slice();
+    Some(&out[0..size.octets.min(out.len())])
 }
 
 // Adds a change bit by bit to the first octets of a frame.
@@ -107,16 +101,12 @@ fn handled<F: Reversible>(
         (receiver_as F.Engine.cipher (holds F.Engine.cipher F.Engine.state receiver.new)) }
 {
     match call {
-        ReceiverCall::Pair {
-            key,
-            label,
-            allowance,
-        } => Some(pair(receiver, key.as_slice(), label.as_slice(), *allowance)),
+        ReceiverCall::Pair(pairing) => Some(pair(receiver, pairing)),
         ReceiverCall::Receive { octets } => Some(receive(receiver, octets.as_slice(), out)),
-        ReceiverCall::Deliver { call, change } => match frame_at(sent, *call) {
-            Some(frame) => Some(deliver(receiver, frame, change.as_slice(), out)),
-            None => None,
-        },
+        ReceiverCall::Deliver { call, change } => {
+            let frame = frame_at(sent, *call)?;
+            Some(deliver(receiver, frame, change.as_slice(), out))
+        }
     }
 }
 
@@ -131,6 +121,5 @@ pub fn take_in<F: Reversible>(
         step.old step.new
         (receiver_as F.Engine.cipher (holds F.Engine.cipher F.Engine.state receiver.new)) }
 {
-    let answer = handled(receiver, sent, &step.call, step.out.as_mut_slice());
-    step.answer = answer;
+    step.answer = handled(receiver, sent, &step.call, step.out.as_mut_slice());
 }

@@ -4,7 +4,7 @@ ghost use Rattle.histories.specs.Calls.{made, opening, torn_opening, sending};
 ghost use Rattle.histories.specs.Histories.{Step, marks_of};
 ghost use Rattle.runs.specs.Readings.{Acted, Beyond, Turned, answer_of, octets_sent, resting_as, sending_as, stage_as};
 
-use crate::calls::{SenderAnswer, SenderCall, SenderStep};
+use crate::calls::{Pairing, SenderAnswer, SenderCall, SenderStep};
 use crate::size::FrameSize;
 use crate::stage::Stage;
 use marks::store::MarkStore;
@@ -14,16 +14,18 @@ use stream::engine::Engine;
 
 fn open<E: Engine + Drop, S: MarkStore + Drop>(
     sender: Resting<E, S>,
-    key: &[u8],
-    label: &[u8],
-    allowance: u32,
+    pairing: &Pairing,
 ) -> (Stage<E, S>, SenderAnswer)
     ensures step { (out : List ℕ) → Step E.Engine.cipher S.MarkStore.writes (resting_as E.Engine.cipher S.MarkStore.mark S.MarkStore.left sender)
-        (made (opening key.now label.now allowance) (answer_of result.1 out))
+        (made (opening pairing.now.key.items pairing.now.label.items pairing.now.allowance) (answer_of result.1 out))
         (stage_as E.Engine.cipher E.Engine.state S.MarkStore.mark S.MarkStore.left result.0) }
     ensures unwritten { octets_sent result.1 ≡ 0 }
 {
-    match sender.open(key, label, allowance) {
+    match sender.open(
+        pairing.key.as_slice(),
+        pairing.label.as_slice(),
+        pairing.allowance,
+    ) {
         Ok(sending) => {
             let session = sending.progress().session;
             (Stage::InSession(sending), SenderAnswer::Opened(session))
@@ -34,18 +36,17 @@ fn open<E: Engine + Drop, S: MarkStore + Drop>(
 
 fn torn_open<E: Engine + Drop, S: MarkStore + Drop>(
     sender: Resting<E, S>,
-    key: &[u8],
-    label: &[u8],
-    allowance: u32,
+    pairing: &Pairing,
     writes_done: u32,
     junk: u32,
 ) -> (Stage<E, S>, SenderAnswer)
     ensures step { (out : List ℕ) → Step E.Engine.cipher S.MarkStore.writes (resting_as E.Engine.cipher S.MarkStore.mark S.MarkStore.left sender)
-        (made (torn_opening key.now label.now allowance writes_done junk) (answer_of result.1 out))
+        (made (torn_opening pairing.now.key.items pairing.now.label.items pairing.now.allowance writes_done junk) (answer_of result.1 out))
         (stage_as E.Engine.cipher E.Engine.state S.MarkStore.mark S.MarkStore.left result.0) }
     ensures unwritten { octets_sent result.1 ≡ 0 }
 {
-    match sender.torn_open(key, label, allowance, writes_done, junk) {
+    let (key, label) = (pairing.key.as_slice(), pairing.label.as_slice());
+    match sender.torn_open(key, label, pairing.allowance, writes_done, junk) {
         Ok(resting) => (Stage::AtRest(resting), SenderAnswer::Torn),
         Err((refusal, resting)) => (Stage::AtRest(resting), SenderAnswer::Refused(refusal)),
     }
@@ -81,27 +82,15 @@ fn turn_at_rest<E: Engine + Drop, S: MarkStore + Drop>(
         (stage_as E.Engine.cipher E.Engine.state S.MarkStore.mark S.MarkStore.left result.0) }
 {
     match call {
-        SenderCall::Open {
-            key,
-            label,
-            allowance,
-        } => open(sender, key.as_slice(), label.as_slice(), *allowance),
+        SenderCall::Open(pairing) => open(sender, pairing),
         SenderCall::TornOpen {
-            key,
-            label,
-            allowance,
+            pairing,
             writes_done,
             junk,
-        } => torn_open(
-            sender,
-            key.as_slice(),
-            label.as_slice(),
-            *allowance,
-            *writes_done,
-            *junk,
-        ),
-        SenderCall::Send { plain: _ } => (Stage::AtRest(sender), SenderAnswer::NotAdmitted),
-        SenderCall::Close => (Stage::AtRest(sender), SenderAnswer::NotAdmitted),
+        } => torn_open(sender, pairing, *writes_done, *junk),
+        SenderCall::Send { .. } | SenderCall::Close => {
+            (Stage::AtRest(sender), SenderAnswer::NotAdmitted)
+        }
         SenderCall::PowerCut => (Stage::AtRest(sender.power_cut()), SenderAnswer::Rested),
     }
 }
@@ -121,18 +110,9 @@ fn turn_in_session<E: Engine + Drop, S: MarkStore + Drop>(
         SenderCall::Send { plain } => send(sender, plain.as_slice(), out),
         SenderCall::Close => (Stage::AtRest(sender.close()), SenderAnswer::Rested),
         SenderCall::PowerCut => (Stage::AtRest(sender.power_cut()), SenderAnswer::Rested),
-        SenderCall::Open {
-            key: _,
-            label: _,
-            allowance: _,
-        } => (Stage::InSession(sender), SenderAnswer::NotAdmitted),
-        SenderCall::TornOpen {
-            key: _,
-            label: _,
-            allowance: _,
-            writes_done: _,
-            junk: _,
-        } => (Stage::InSession(sender), SenderAnswer::NotAdmitted),
+        SenderCall::Open(_) | SenderCall::TornOpen { .. } => {
+            (Stage::InSession(sender), SenderAnswer::NotAdmitted)
+        }
     }
 }
 
@@ -176,8 +156,6 @@ pub fn turn<E: Engine + Drop, S: MarkStore + Drop>(
 {
     let (stage, answer) = acted(stage, &step.call, step.out.as_mut_slice());
     step.answer = answer;
-    let (mark, left) = store_numbers(&stage);
-    step.mark = mark;
-    step.left = left;
+    (step.mark, step.left) = store_numbers(&stage);
     stage
 }

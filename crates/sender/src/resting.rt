@@ -1,12 +1,13 @@
 //! A sender at rest.
-ghost use Rattle.std.specs.Prelude.{◌≡◌, Some, MatchResult};
+ghost use Rattle.std.specs.Prelude.{◌≡◌, Some, None, MatchResult};
 ghost use Rattle.stream.specs.Refusals.{number};
 ghost use Rattle.link.specs.Senders.{open_refusal};
+ghost use Rattle.link.specs.Sessions.{pair_refusal};
 ghost use Rattle.sender.specs.Calls.{Opened, Cut};
 
 use crate::progress::Progress;
 use crate::sending::Sending;
-use link::pairing::{load_session, pairing_refusal};
+use link::pairing::{check_pairing, load_session};
 use marks::store::MarkStore;
 use stream::engine::Engine;
 use stream::refusal::Refusal;
@@ -34,6 +35,25 @@ impl<E: Engine, S: MarkStore> Resting<E, S> {
         &self.store
     }
 
+    // The sender again, where a key, a label and an allowance pass the checks of a pairing; else the first refusal that applies, with the sender.
+    fn checked(
+        self,
+        key: &[u8],
+        label: &[u8],
+        allowance: u32,
+    ) -> Result<Resting<E, S>, (Refusal, Resting<E, S>)>
+        ensures { MatchResult result
+            (λ s. (pair_refusal E.Engine.cipher key.now label.now allowance ≡ None)
+            × (s ≡ self))
+            (λ e. (pair_refusal E.Engine.cipher key.now label.now allowance ≡ Some (number e.0))
+            × (e.1 ≡ self)) }
+    {
+        match check_pairing::<E>(key, label, allowance) {
+            Ok(()) => Ok(self),
+            Err(refusal) => Err((refusal, self)),
+        }
+    }
+
     /// Opens a session of at most `allowance` octets under a key and a label.
     /// The store's mark becomes the session number; the store is raised, and then the engine is set to the session's start.
     /// Refused with the first that applies of 1, 2, 3, 4 and 10, it gives the sender back as it was.
@@ -50,30 +70,26 @@ impl<E: Engine, S: MarkStore> Resting<E, S> {
             ≡ Some (number e.0))
             × (e.1 ≡ self)) }
     {
-        if let Some(refusal) = pairing_refusal::<E>(key, label, allowance) {
-            return Err((refusal, self));
-        }
+        let resting = self.checked(key, label, allowance)?;
         let Resting {
             mut engine,
             mut store,
-        } = self;
+        } = resting;
         let session = store.read();
-        match store.raise() {
-            Ok(()) => {
-                load_session(&mut engine, key, label, session);
-                let progress = Progress {
-                    session,
-                    place: 0,
-                    allowance,
-                };
-                Ok(Sending {
-                    engine,
-                    store,
-                    progress,
-                })
-            }
-            Err(refusal) => Err((refusal, Resting { engine, store })),
+        if let Err(refusal) = store.raise() {
+            return Err((refusal, Resting { engine, store }));
         }
+        load_session(&mut engine, key, label, session);
+        let progress = Progress {
+            session,
+            place: 0,
+            allowance,
+        };
+        Ok(Sending {
+            engine,
+            store,
+            progress,
+        })
     }
 
     /// An open in which the power fails during the raise, after the first `writes_done` of its writes,
@@ -94,15 +110,10 @@ impl<E: Engine, S: MarkStore> Resting<E, S> {
             ≡ Some (number e.0))
             × (e.1 ≡ self)) }
     {
-        match pairing_refusal::<E>(key, label, allowance) {
-            Some(refusal) => Err((refusal, self)),
-            None => {
-                let Resting { engine, mut store } = self;
-                match store.torn_raise(writes_done, junk) {
-                    Ok(()) => Ok(Resting { engine, store }),
-                    Err(refusal) => Err((refusal, Resting { engine, store })),
-                }
-            }
+        let Resting { engine, mut store } = self.checked(key, label, allowance)?;
+        match store.torn_raise(writes_done, junk) {
+            Ok(()) => Ok(Resting { engine, store }),
+            Err(refusal) => Err((refusal, Resting { engine, store })),
         }
     }
 

@@ -22,24 +22,10 @@ pub struct Sending<E, S> {
     pub(crate) progress: Progress,
 }
 
-// The refusal of a send of so many octets into so much room, if any: the first that applies of 5, 7 and 11.
-fn sending_refusal(progress: Progress, size: usize, room: usize) -> Option<Refusal>
-    ensures { option_map number result ≡ send_refusal progress.place progress.allowance size room }
-{
-    if size == 0 || size > 1024 {
-        Some(Refusal::PlainLength)
-    } else if room < 10 + size {
-        Some(Refusal::ShortBuffer)
-    } else if progress.place + size as u32 > progress.allowance {
-        Some(Refusal::AboveAllowance)
-    } else {
-        None
-    }
-}
-
 // Writes the frame of a plain at the start of a buffer that has room for it.
 fn write_frame<E: Engine>(engine: &mut E, progress: Progress, plain: &[u8], out: &mut [u8])
-    requires { (length plain.now ≤ 1024) × (10 + length plain.now ≤ length out.old) }
+    requires size { length plain.now ≤ 1024 }
+    requires room { 10 + length plain.now ≤ length out.old }
     ensures written { out.new ≡ sent_frame E.cipher progress.session progress.place (E.state engine.old) plain.now
         ++ drop (10 + length plain.now) out.old }
     ensures moves { E.state engine.new ≡ later E.cipher (8 * length plain.now) (E.state engine.old) }
@@ -80,14 +66,12 @@ impl<E: Engine, S: MarkStore> Sending<E, S> {
             × (out.new ≡ out.old)) }
     {
         let progress = self.progress;
-        if let Some(refusal) = sending_refusal(progress, plain.len(), out.len()) {
-            return Err(refusal);
-        }
+        progress.check_send(plain.len(), out.len())?;
         write_frame(&mut self.engine, progress, plain, out);
-        let place = progress.place + plain.len() as u32;
+        // `..progress` is not supported in a literal of a struct with a ghost field
         self.progress = Progress {
             session: progress.session,
-            place,
+            place: progress.place + plain.len() as u32,
             allowance: progress.allowance,
         };
         Ok(10 + plain.len())
@@ -97,11 +81,7 @@ impl<E: Engine, S: MarkStore> Sending<E, S> {
     pub fn close(self) -> Resting<E, S>
         ensures { result.store ≡ self.store }
     {
-        let Sending {
-            engine,
-            store,
-            progress: _,
-        } = self;
+        let Sending { engine, store, .. } = self;
         Resting { engine, store }
     }
 

@@ -1,57 +1,68 @@
-use Rattle.std.proofs.Common.{◌≡◌, ℕ, ◌+◌, List, ◌++◌, length, drop, ℤ, pos, ◌-ℤ◌, Some, Option, refl, ap, ◌∙◌, ap₂, arith, length-drop, w32, SFits, rules}
-use Rattle.std.proofs.lemmas.List.{take_rest}
+use Rattle.std.proofs.Common.{◌≡◌, ℕ, ◌+◌, ◌*◌, List, ◌++◌, length, take, drop, pos, ◌-ℤ◌, Some, Option, sym, refl, ap, ◌∙◌, ap₂, arith, w32, SFits, rules}
 use Rattle.std.proofs.lemmas.Int.{to_z-of_z}
-use Rattle.stream.specs.Ciphers.{Cipher, cover}
-use Rattle.link.specs.Frames.{frame_length, frame_payload}
-use Rattle.link.specs.Receivers.{place_for}
+use Rattle.stream.specs.Ciphers.{Cipher, later, session_iv, cover}
+use Rattle.stream.proofs.Streams.{later_more}
+use Rattle.link.specs.Frames.{frame_length}
+use Rattle.link.specs.Receivers.{Known, place_for, receive_refusal}
 use Rattle.link.specs.Sessions.{state_at}
-use Rattle.receiver.specs.Receiving.{Accepts, Admits, Opens, known}
-use Rattle.receiver.specs.declared.fields.Fields.{Fields}
-use Rattle.receiver.specs.declared.pairing.Pairing.{Pairing}
+use Rattle.receiver.specs.Receiving.{Reached, InPlace, holds, known, frame_refusal}
+use Rattle.receiver.proofs.InSession.{InSession, session_of, stands_at}
 use Rattle.receiver.proofs.Receiver.receive.Goals as goal
 
--- the payload has as many octets as the length field says
-payload_long : (allowance room : ℕ) (f : List ℕ) (h : Fields) → Admits allowance f room h → length (drop 10 f) ≡ frame_length f
-payload_long allowance room f h a = simp length-drop (omega (arith, a.whole, a.header.size))
+-- moved from one place of a session to another
+moved_to : (c : Cipher) (k : Known) (n here there : ℕ) (before after : c.State)
+    → ((s : c.State) → before ≡ later c (8 * here) s → after ≡ later c (8 * there) s)
+    → InSession c k n here before → InSession c k n there after
+unfolding state_at
+moved_to c k n here there before after moves stood = (stood.0, moves (c.start k.key (session_iv k.label n)) stood.1)
 
--- the plain that was written, said of the frame
-plain_of : (c : Cipher) (x : c.State) (f payload out written : List ℕ)
-    → payload ≡ drop 10 f → length (drop 10 f) ≡ frame_length f
-    → written ≡ cover c x payload ++ drop (length payload) out
-    → written ≡ cover c x (frame_payload f) ++ drop (frame_length f) out
-plain_of c x f payload out written is long done =
-    done ∙ ap₂ (λ xs n. cover c x xs ++ drop n out) is (ap length is ∙ long)
+-- moved on by so many octets
+passed_on : (c : Cipher) (k : Known) (n here size end : ℕ) (before after : c.State)
+    → InSession c k n here before → after ≡ later c (8 * size) before → here + size ≡ end → InSession c k n end after
+unfolding state_at
+passed_on c k n here size end before after stood moved sum =
+    (stood.0, later_more c (c.start k.key (session_iv k.label n)) before after (8 * here) (8 * size) (8 * end) stood.1 moved (omega arith))
 
--- a frame that was admitted and opened, said of the frame
-accepted : (c : Cipher) (o : Option Pairing) (p : Pairing) (present : Option ℕ) (place : ℕ) (s t : c.State)
-    (f payload out written : List ℕ) (h : Fields) (d : ℤ)
-    → o ≡ Some p → Admits p.allowance f (length out) h → payload ≡ drop 10 f
-    → d ≡ pos h.place -ℤ pos (place_for present place h.session)
-    → Opens c (record { pairing = known c (Some p); session = present; place = place; state = s })
-    (record { pairing = known c (Some p); session = Some h.session; place = h.place + h.length; state = t })
-    h.session h.place payload out written
-    → Accepts c (record { pairing = known c o; session = present; place = place; state = s })
-    (record { pairing = known c o; session = Some h.session; place = h.place + h.length; state = t })
-    f out written (record { length = h.length; distance = d })
-accepted c o p present place s t f payload out written h d told a is distance opens =
-    let header = a.header in
-    rw told (record {
-      allowed = a.allowed;
-      size = header.size;
-      distance = distance ∙ ap₂ (λ m n. pos m -ℤ pos (place_for present place n)) header.place header.session;
-      pairing = refl;
-      session = ap Some header.session;
-      place = ap₂ ◌+◌ header.place header.size;
-      from = opens.from;
-      plain = plain_of c _ f payload out written is (payload_long _ _ f h a) opens.plain;
-      reached = λ stood. opens.reached stood ∙ ap₂ (state_at c _ _) header.session header.place;
-      stands = opens.stands;
-    })
+-- the state reached, said of the frame
+reached_at : (c : Cipher) (o : Option Known) (k : Known) (m n p q : ℕ) (x : c.State)
+    → o ≡ Some k → m ≡ n → p ≡ q → InSession c k m p x → Reached c o n q x
+reached_at c o k m n p q x told session place stood = rw told (stood.1 ∙ ap₂ (state_at c k.key k.label) session place)
 
-pub returns-in-Ok : goal.returns-in-Ok
-returns-in-Ok g c =
-    let fits : SFits w32 c.opened-distance.result = search rules in
+-- a frame that is not refused under what was told
+allowed_by : (o : Option Known) (k : Known) (f : List ℕ) (room : ℕ) → o ≡ Some k → frame_refusal k.allowance f room ≡ receive_refusal o f room
+allowed_by o k f room told = rw told refl
+
+pub returns : goal.returns
+returns g c =
+    let cipher = g.E.Engine.cipher in
+    let fits : SFits w32 c.reach-distance.result = search rules in
     let frame = c.args.frame.now in
-    accepted g.E.Engine.cipher c.args.self.now.pairing c.in-Some.pairing _ _ _ _ frame _ _ _ c.in-Ok.fields _
-    c.in-Some.is c.in-Ok.ensures (take_rest frame 10) (to_z-of_z w32 _ fits ∙ c.opened-distance.ensures.distance)
-    c.opened-distance.ensures.opens
+    let came = c.in_ok-frame.frame in
+    let a = c.in_ok-frame.ensures in
+    let told = ap (known cipher) c.in-Some.is in
+    let turned = c.turn.ensures in
+    let reached = c.reach-distance.ensures in
+    let uncovered = c.uncover.ensures in
+    let long : length came.payload.now ≡ frame_length frame = ap length a.payload ∙ a.size in
+    let p = c.in-Some.pairing in
+    let k : Known = record { key = take cipher.figures.key p.key; label = take cipher.figures.label p.label; allowance = p.allowance } in
+    let before = holds cipher g.E.Engine.state c.args.self.now in
+    let from = g.E.Engine.state c.reach-distance.new.self.engine in
+    let at_frame : InPlace cipher before → InSession cipher k came.session came.place from =
+    λ stood. moved_to cipher k _ _ _ _ _ reached.moves
+    (session_of cipher _ _ k _ _ _ _ (ap (known cipher) turned.pairing) told turned.session (turned.stands stood)) in
+    record {
+      allowed = sym (allowed_by _ k frame _ told) ∙ a.allowed;
+      size = long;
+      distance = to_z-of_z w32 _ fits ∙ reached.distance
+          ∙ ap₂ (λ m n. pos m -ℤ pos n) a.place (turned.place ∙ ap (place_for before.session before.place) a.session);
+      pairing = ap (known cipher) (uncovered.pairing ∙ reached.pairing ∙ turned.pairing);
+      session = uncovered.session ∙ reached.session ∙ turned.session ∙ ap Some a.session;
+      place = uncovered.place ∙ ap₂ ◌+◌ (reached.place ∙ a.place) long;
+      from = from;
+      plain = uncovered.plain ∙ ap₂ (λ xs n. cover cipher from xs ++ drop n c.args.out.now) a.payload long;
+      reached = λ stood. reached_at cipher _ _ _ _ _ _ _ told a.session a.place (at_frame stood);
+      stands = λ stood. stands_at cipher _ _ _ _ _ _ _ (ap (known cipher) (uncovered.pairing ∙ reached.pairing ∙ turned.pairing)) told
+          (uncovered.session ∙ reached.session ∙ turned.session)
+          (passed_on cipher k _ _ _ _ _ _ (at_frame stood) uncovered.moves (ap (λ n. n + length came.payload.now) (sym reached.place) ∙ sym uncovered.place));
+    }

@@ -11,7 +11,8 @@ use Rattle.runs.proofs.comings.pair.Goals as goal
 pub returns-in-Ok : goal.returns-in-Ok
 returns-in-Ok g c =
     record {
-      step = λ out. pair_step g.F.Engine.cipher _ _ c.args.key.now c.args.label.now c.args.allowance c.in-Ok.ensures;
+      step = λ out. rw (c.as_slice.ensures.value, c.as_slice-2.ensures.value) at
+          (pair_step g.F.Engine.cipher _ _ _ _ c.args.pairing.now.allowance c.in-Ok.ensures);
       unwritten = refl;
     }
 
@@ -20,9 +21,12 @@ returns-in-Err g c =
     let cipher = g.F.Engine.cipher in
     let state = g.F.Engine.state in
     let o = c.in-Err.ensures in
+    let key = c.as_slice.result.now in
+    let label = c.as_slice-2.result.now in
     record {
-      step = λ out. subst (λ (v : Receiver g.row.F.Denot). Receives cipher (receiver_as cipher (holds cipher state c.args.receiver.now))
-          (came (pairing c.args.key.now c.args.label.now c.args.allowance) (turned_down (number c.in-Err.refusal))) (receiver_as cipher (holds cipher state v)))
-          (sym o.1) (pair_refused o.0);
+      step = λ out. rw (c.as_slice.ensures.value, c.as_slice-2.ensures.value) at
+          (subst (λ (v : Receiver g.row.F.Denot). Receives cipher (receiver_as cipher (holds cipher state c.args.receiver.now))
+          (came (pairing key label c.args.pairing.now.allowance) (turned_down (number c.in-Err.refusal))) (receiver_as cipher (holds cipher state v)))
+          (sym o.1) (pair_refused o.0));
       unwritten = refl;
     }

@@ -1,6 +1,6 @@
 use Rattle.receiver.specs.Receiving.{holds}
 use Rattle.runs.specs.Readings.{Taken, receiver_as}
-use Rattle.runs.proofs.Rows.{half_more, half_all, comings_row}
+use Rattle.runs.proofs.Rows.{half_more, half_all}
 use Rattle.runs.proofs.run.run_receiver.Goals as goal
 
 pub loop-step-preserved : goal.loop-step-preserved
@@ -14,6 +14,5 @@ returns g c =
     let sent = c.args.sent.now in
     record {
       reached = receiver_as cipher (holds cipher g.F.Engine.state c.loop-step.receiver);
-      comings = comings_row cipher sent c.args.steps.now c.loop-step.steps _ _
-          (half_all (Taken cipher sent) c.args.steps.now c.loop-step.steps c.loop-step.step-index _ _ c.loop-step-test.false c.loop-step.invariant);
+      comings = half_all (Taken cipher sent) c.args.steps.now c.loop-step.steps c.loop-step.step-index _ _ c.loop-step-test.false c.loop-step.invariant;
     }

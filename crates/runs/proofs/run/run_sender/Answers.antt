@@ -1,5 +1,5 @@
 use Rattle.runs.specs.Readings.{Turned, stage_as}
-use Rattle.runs.proofs.Rows.{half_more, half_all, turns_row}
+use Rattle.runs.proofs.Rows.{half_more, half_all}
 use Rattle.runs.proofs.run.run_sender.Goals as goal
 
 pub loop-step-preserved : goal.loop-step-preserved
@@ -13,6 +13,5 @@ returns g c =
     let writes = g.S.MarkStore.writes in
     record {
       reached = stage_as cipher g.E.Engine.state g.S.MarkStore.mark g.S.MarkStore.left c.loop-step.stage;
-      turns = turns_row cipher writes c.args.steps.now c.loop-step.steps _ _
-          (half_all (Turned cipher writes) c.args.steps.now c.loop-step.steps c.loop-step.step-index _ _ c.loop-step-test.false c.loop-step.invariant);
+      turns = half_all (Turned cipher writes) c.args.steps.now c.loop-step.steps c.loop-step.step-index _ _ c.loop-step-test.false c.loop-step.invariant;
     }

@@ -12,12 +12,14 @@ returns-in-Ok g c =
     let mark = g.S.MarkStore.mark in
     let left = g.S.MarkStore.left in
     let to = c.in-Ok.sending in
-    let key = c.args.key.now in
-    let label = c.args.label.now in
+    let key = c.as_slice.result.now in
+    let label = c.as_slice-2.result.now in
+    let allowance = c.args.pairing.now.allowance in
     record {
-      step = λ out. subst (λ (p : Progress). Step cipher g.S.MarkStore.writes (resting_as cipher mark left c.args.sender) (made (opening key label c.args.allowance) (opened p.session))
+      step = λ out. rw (c.as_slice.ensures.value, c.as_slice-2.ensures.value) at
+          (subst (λ (p : Progress). Step cipher g.S.MarkStore.writes (resting_as cipher mark left c.args.sender) (made (opening key label allowance) (opened p.session))
           (sending_as cipher g.E.Engine.state mark left to)) (sym c.progress-session.ensures)
-          (open_step mark left cipher g.S.MarkStore.writes key label c.args.allowance c.args.sender.store to.store to.progress (g.E.Engine.state to.engine) c.in-Ok.ensures);
+          (open_step mark left cipher g.S.MarkStore.writes key label allowance c.args.sender.store to.store to.progress (g.E.Engine.state to.engine) c.in-Ok.ensures));
       unwritten = refl;
     }
 
@@ -25,7 +27,8 @@ pub returns-in-Err : goal.returns-in-Err
 returns-in-Err g c =
     let e = c.in-Err.ensures in
     record {
-      step = λ out. open_no_step g.S.MarkStore.mark g.S.MarkStore.left g.E.Engine.cipher g.S.MarkStore.writes c.args.key.now c.args.label.now c.args.allowance _
-          c.args.sender.store c.in-Err.resting.store e.0 (ap (λ r. r.store) e.1);
+      step = λ out. rw (c.as_slice.ensures.value, c.as_slice-2.ensures.value) at
+          (open_no_step g.S.MarkStore.mark g.S.MarkStore.left g.E.Engine.cipher g.S.MarkStore.writes _ _ c.args.pairing.now.allowance _
+          c.args.sender.store c.in-Err.resting.store e.0 (ap (λ r. r.store) e.1));
       unwritten = refl;
     }

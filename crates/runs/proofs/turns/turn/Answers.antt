@@ -15,5 +15,5 @@ returns g c =
       call = refl;
       acted = lent (λ b a. Acted cipher g.S.MarkStore.writes (as-sender c.args.stage) step.call b a c.acted-stage.result.1 (as-sender c.acted-stage.result.0)) _ _ _ _
           c.as_mut_slice.ensures.value (with_items_is step.out after whole) c.acted-stage.ensures;
-      marks = c.store_numbers-mark.ensures;
+      marks = c.store_numbers.ensures;
     }

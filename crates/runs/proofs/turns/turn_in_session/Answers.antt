@@ -1,4 +1,4 @@
-use Rattle.std.proofs.Common.{refl}
+use Rattle.std.proofs.Common.{inl, inr, refl}
 use Rattle.histories.specs.Histories.{closed, cut, open_in_session, torn_in_session}
 use Rattle.runs.proofs.Steps.{for_call, same_store, unwritten}
 use Rattle.runs.proofs.turns.turn_in_session.Goals as goal
@@ -18,7 +18,7 @@ returns-in-PowerCut g c =
     })
 
 pub returns-in-Open : goal.returns-in-Open
-returns-in-Open g c = for_call _ _ _ _ _ _ _ _ _ c.in-Open.is (record { step = open_in_session; beyond = unwritten _ _ _ refl })
-
-pub returns-in-TornOpen : goal.returns-in-TornOpen
-returns-in-TornOpen g c = for_call _ _ _ _ _ _ _ _ _ c.in-TornOpen.is (record { step = torn_in_session; beyond = unwritten _ _ _ refl })
+returns-in-Open g c = elim c.in-Open.is [
+  | inl w ↦ for_call _ _ _ _ _ _ _ _ _ w.1 (record { step = open_in_session; beyond = unwritten _ _ _ refl })
+  | inr w ↦ for_call _ _ _ _ _ _ _ _ _ w.3 (record { step = torn_in_session; beyond = unwritten _ _ _ refl })
+]

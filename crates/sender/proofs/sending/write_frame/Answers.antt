@@ -51,8 +51,8 @@ returns g c =
     let plain = c.args.plain.now in
     let out = c.args.out.now in
     let copied = c.copy_from_slice.ensures.after in
-    let part = copied_part plain _ out _ refl copied c.requires.1 in
+    let part = copied_part plain _ out _ refl copied c.requires.room in
     record {
-      written = framed cipher _ _ _ plain _ _ out _ _ refl copied c.requires.1 c.cover.ensures.covered c.write_header.ensures.written;
+      written = framed cipher _ _ _ plain _ _ out _ _ refl copied c.requires.room c.cover.ensures.covered c.write_header.ensures.written;
       moves = c.cover.ensures.moves ∙ ap (λ ys. later cipher (8 * length ys) (g.E.Engine.state c.args.engine.now)) part;
     }
