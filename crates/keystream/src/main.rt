@@ -3,11 +3,10 @@
 //! The words of the command line, or where it has none those of the standard input, make a request, as `cipher=grain128 key=..`.
 #![tactic(auto)]
 
-use anyhow::anyhow;
-use keystreams::replies::{Reply, reply_to};
+use keystreams::replies::reply_to;
 use std::process::ExitCode;
 use std::{env, io};
-use workshop::words::split_words;
+use texts::words::split_words;
 
 // The words of the command line, or where it has none those of the standard input.
 fn given_words(rt: &HostRuntime) -> anyhow::Result<Vec<String>> {
@@ -25,13 +24,9 @@ fn given_words(rt: &HostRuntime) -> anyhow::Result<Vec<String>> {
 
 fn run(rt: &HostRuntime) -> anyhow::Result<()> {
     let words = given_words(rt)?;
-    match reply_to(rt.alloc(), words.as_slice())? {
-        Reply::Answer(text) => {
-            print!(rt; "{text}")?;
-            Ok(())
-        }
-        Reply::Complaint(line) => Err(anyhow!("{line}")),
-    }
+    let text = reply_to(rt.alloc(), words.as_slice())?;
+    print!(rt; "{text}")?;
+    Ok(())
 }
 
 fn main(rt: HostRuntime) -> ExitCode {

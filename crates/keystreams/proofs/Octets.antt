@@ -1,10 +1,10 @@
--- Places in a keystream, and its octets as zeros covered.
+-- Places in a keystream, its octets as zeros covered, and octets covered twice.
 use Rattle.std.proofs.Common.{◌≡◌, ℕ, ◌+◌, ◌*◌, ◌<◌, List, length, get_or, replicate, sym, refl, ap, ◌∙◌, arith, ext_get_or}
 use lib.Bits.{bit_xor, xor_zero_l}
 use lib.ListN.{length-replicate, get_or-replicate}
 use Rattle.stream.specs.Ciphers.{Cipher, later, octet, keystream_octet, cover}
 use Rattle.stream.proofs.Packed.{length-first, get_or-first}
-use Rattle.stream.proofs.Streams.{later_more, length-cover, get_or-cover}
+use Rattle.stream.proofs.Streams.{later_more, length-cover, get_or-cover, cover_twice}
 use Rattle.keystreams.specs.Uses.{place, keystream_octets}
 
 -- n octets on from the place of octet q
@@ -36,3 +36,14 @@ zeros-covered c key iv xs ys s q n here zeros covered =
   where
     size : length xs ≡ n
     size = ap length zeros ∙ length-replicate n 0
+
+-- covered twice from one state, octets are as they were
+pub uncovered_again : (c : Cipher) (s : c.State) (message covered lent again : List ℕ)
+    → covered ≡ cover c s message → lent ≡ covered → again ≡ cover c s lent → again ≡ message
+uncovered_again c s message covered lent again once same twice =
+    twice ∙ ap (cover c s) (same ∙ once) ∙ cover_twice c s message
+
+-- what is covered once more is as long as the message
+pub length_again : (c : Cipher) (s : c.State) (message covered lent : List ℕ)
+    → covered ≡ cover c s message → lent ≡ covered → length lent ≡ length message
+length_again c s message covered lent once same = ap length (same ∙ once) ∙ length-cover c s message

@@ -2,10 +2,10 @@
 ghost use Rattle.std.specs.Prelude.{◌≡◌, length, IfOk, None, MatchResult};
 ghost use Rattle.stream.specs.Ciphers.{cover as covering};
 ghost use Rattle.keystreams.specs.Answers.{nonce_iv, KeystreamRefused, CoverRefused, CoveredFrom, Answered, AnswerRefused};
-ghost use Rattle.keystreams.specs.Uses.{use_refusal, place, keystream_octets};
+ghost use Rattle.keystreams.specs.Uses.{part_refusal, part_start, part_octets};
 
 use crate::fault::Fault;
-use crate::parts::{cover_from, part_refusal, write_keystream};
+use crate::parts::Start;
 use crate::report::{Covered, Report};
 use std::alloc::{AllocError, Global};
 use stream::engine::Engine;
@@ -19,77 +19,67 @@ fn iv_of(heap: Global, nonce: &Nonce) -> Result<Vec<u8>, AllocError>
     match nonce {
         Nonce::Iv(iv) => Vec::from_slice(heap, iv.as_slice()),
         Nonce::Session { label, session } => {
-            let mut iv = vec![in heap; 0u8; label.len().saturating_add(4)]?;
-            match session_iv(label.as_slice(), *session, iv.as_mut_slice()) {
-                Ok(_) => Ok(iv),
-                Err(_) => Err(AllocError),
-            }
+            let mut iv = vec![in heap; 0u8; label.len() + 4]?;
+            session_iv(label.as_slice(), *session, iv.as_mut_slice()).unwrap();
+            Ok(iv)
         }
     }
 }
 
-// So many keystream octets from octet `first` on. Memory is taken only where they are not refused.
+// So many keystream octets from a start on. Memory is taken only where they are not refused.
 fn keystream_from<E: Engine>(
     heap: Global,
     engine: &mut E,
-    key: &[u8],
-    iv: &[u8],
-    first: u32,
+    start: &Start<'_>,
     count: u32,
 ) -> Result<Vec<u8>, Fault>
     ensures { MatchResult result
-        (λ v. (use_refusal E.cipher key.now iv.now first count ≡ None)
-        × (v.items ≡ keystream_octets E.cipher key.now iv.now first count))
-        (KeystreamRefused E.cipher key.now iv.now first count) }
+        (λ v. (part_refusal E.cipher start.now count ≡ None)
+        × (v.items ≡ part_octets E.cipher start.now count))
+        (KeystreamRefused E.cipher start.now.key.now start.now.iv.now start.now.first count) }
 {
-    if let Some(refusal) = part_refusal::<E>(key, iv, first, count as usize) {
-        return Err(Fault::Refused(refusal));
-    }
+    start.check::<E>(count as usize).map_err(Fault::Refused)?;
     let mut octets = vec![in heap; 0u8; count as usize]?;
-    match write_keystream(engine, key, iv, first, octets.as_mut_slice()) {
-        Ok(()) => Ok(octets),
-        Err(refusal) => Err(Fault::Refused(refusal)),
-    }
+    start
+        .write_keystream(engine, octets.as_mut_slice())
+        .map_err(Fault::Refused)?;
+    Ok(octets)
 }
 
 // A covered copy of octets.
 fn covered_copy<E: Engine>(
     heap: Global,
     engine: &mut E,
-    key: &[u8],
-    iv: &[u8],
-    first: u32,
+    start: &Start<'_>,
     octets: &[u8],
 ) -> Result<Vec<u8>, Fault>
     ensures { MatchResult result
-        (λ v. (use_refusal E.cipher key.now iv.now first (length octets.now) ≡ None)
-        × (v.items ≡ covering E.cipher (place E.cipher key.now iv.now first) octets.now))
-        (CoverRefused E.cipher key.now iv.now first (length octets.now)) }
+        (λ v. (part_refusal E.cipher start.now (length octets.now) ≡ None)
+        × (v.items ≡ covering E.cipher (part_start E.cipher start.now) octets.now))
+        (CoverRefused E.cipher start.now.key.now start.now.iv.now start.now.first (length octets.now)) }
 {
     let mut copy = Vec::from_slice(heap, octets)?;
-    match cover_from(engine, key, iv, first, copy.as_mut_slice()) {
-        Ok(()) => Ok(copy),
-        Err(refusal) => Err(Fault::MessageRefused(refusal)),
-    }
+    start
+        .cover(engine, copy.as_mut_slice())
+        .map_err(Fault::MessageRefused)?;
+    Ok(copy)
 }
 
 // A message, covered, and uncovered again.
 fn message_from<E: Engine>(
     heap: Global,
     engine: &mut E,
-    key: &[u8],
-    iv: &[u8],
-    first: u32,
+    start: &Start<'_>,
     message: &[u8],
 ) -> Result<Covered, Fault>
     ensures { MatchResult result
-        (λ v. (use_refusal E.cipher key.now iv.now first (length message.now) ≡ None)
-        × CoveredFrom E.cipher (place E.cipher key.now iv.now first) message.now v)
-        (CoverRefused E.cipher key.now iv.now first (length message.now)) }
+        (λ v. (part_refusal E.cipher start.now (length message.now) ≡ None)
+        × CoveredFrom E.cipher (part_start E.cipher start.now) message.now v)
+        (CoverRefused E.cipher start.now.key.now start.now.iv.now start.now.first (length message.now)) }
 {
     let plain = Vec::from_slice(heap, message)?;
-    let covered = covered_copy(heap, engine, key, iv, first, message)?;
-    let uncovered = covered_copy(heap, engine, key, iv, first, covered.as_slice())?;
+    let covered = covered_copy(heap, engine, start, message)?;
+    let uncovered = covered_copy(heap, engine, start, covered.as_slice())?;
     Ok(Covered {
         plain,
         covered,
@@ -101,29 +91,22 @@ fn message_from<E: Engine>(
 /// keystream octet `first` on and uncovered again. The cipher that the request names is not looked at.
 ///
 /// Refused with the first of 1, 2, 3 and 11 that applies to the keystream octets, else to as many octets as the message has.
-pub fn answer<E: Engine + Drop>(heap: Global, engine: E, request: &Request) -> Result<Report, Fault>
+pub fn answer<E: Engine + Drop>(
+    heap: Global,
+    mut engine: E,
+    request: &Request,
+) -> Result<Report, Fault>
     ensures { MatchResult result (Answered E.Engine.cipher request.now) (AnswerRefused E.Engine.cipher request.now) }
 {
-    let mut engine = engine;
     let iv = iv_of(heap, &request.nonce)?;
-    let key = request.key.as_slice();
-    let keystream = keystream_from(
-        heap,
-        &mut engine,
-        key,
-        iv.as_slice(),
-        request.first,
-        request.count,
-    )?;
+    let start = Start {
+        key: request.key.as_slice(),
+        iv: iv.as_slice(),
+        first: request.first,
+    };
+    let keystream = keystream_from(heap, &mut engine, &start, request.count)?;
     let message = match &request.message {
-        Some(plain) => Some(message_from(
-            heap,
-            &mut engine,
-            key,
-            iv.as_slice(),
-            request.first,
-            plain.as_slice(),
-        )?),
+        Some(plain) => Some(message_from(heap, &mut engine, &start, plain.as_slice())?),
         None => None,
     };
     Ok(Report {

@@ -1,4 +1,5 @@
-//! The engines by the names of their ciphers.
+//! The engines by the names of their ciphers. Each function has its own match over the five names: a trait that runs what it is
+//! given over the engine of a name would need a struct and an impl for each of the two.
 ghost use Rattle.std.specs.Prelude.{◌≡◌, MatchResult};
 ghost use Rattle.keystreams.specs.Answers.{Answered, AnswerRefused};
 ghost use Rattle.keystreams.specs.Named.{cipher_of};
@@ -11,7 +12,7 @@ use sprout::engine::Sprout;
 use std::alloc::Global;
 use stream::engine::Engine;
 use stream::figures::Figures;
-use workshop::field::CipherName;
+use texts::names::CipherName;
 use workshop::request::Request;
 
 // The figures of the cipher of this name.

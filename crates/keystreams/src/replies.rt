@@ -1,31 +1,58 @@
 //! What is replied to the words of a request.
-ghost use Rattle.std.specs.Prelude.{IfOk};
-ghost use Rattle.keystreams.specs.Replies.{Replied};
+ghost use Rattle.std.specs.Prelude.{◌≡◌, Some};
+ghost use Rattle.keystreams.specs.Replies.{Replied, complaint_text};
+ghost use Rattle.keystreams.specs.declared.replies.Complaint.TheVariants.{NoMemory};
 
 use crate::named::answer_named;
 use crate::text::{fault_line, report_text};
 use std::alloc::{AllocError, Global};
+use std::error::Error;
+use std::fmt;
 use workshop::request::read_request;
 
-/// What is replied to words.
-#[derive(Drop)]
-pub enum Reply {
-    /// The text of a report, which ends its last line.
-    Answer(String),
+/// Why words have no answer.
+#[derive(Debug, Drop)]
+pub enum Complaint {
     /// One line without its end: what is wrong with the words, or why their request has no answer.
-    Complaint(String),
+    Line(String),
+    /// There was no memory for the reply.
+    NoMemory,
 }
 
-/// The reply to words: the report that answers the request that they make, or what is wrong with them or with it.
-pub fn reply_to(heap: Global, words: &[String]) -> Result<Reply, AllocError>
-    ensures { IfOk result (Replied words.now) }
+impl From<AllocError> for Complaint {
+    ghost from_gives = { λ _ r. r ≡ NoMemory };
+
+    fn from(_e: AllocError) -> Complaint {
+        Complaint::NoMemory
+    }
+}
+
+/// One line without its end.
+// written by hand, as a derived one promises no text
+impl fmt::Display for Complaint {
+    ghost output = { λ x. Some (complaint_text x) };
+
+    fn fmt<W: fmt::Write>(&self, f: &mut fmt::Formatter<W>) -> fmt::Result {
+        match self {
+            Complaint::Line(line) => f.write_str(line.as_str()),
+            Complaint::NoMemory => f.write_str("memory allocation failed"),
+        }
+    }
+}
+
+impl Error for Complaint {}
+
+/// The reply to words: the text of the report that answers the request that they make, which ends its last line,
+/// or what is wrong with them or with it.
+pub fn reply_to(heap: Global, words: &[String]) -> Result<String, Complaint>
+    ensures { Replied words.now result }
 {
     let request = match read_request(heap, words) {
         Ok(request) => request,
-        Err(fault) => return Ok(Reply::Complaint(format!(in heap; "{fault}")?)),
+        Err(fault) => return Err(Complaint::Line(format!(in heap; "{fault}")?)),
     };
     match answer_named(heap, &request) {
-        Ok(report) => Ok(Reply::Answer(report_text(heap, &request, &report)?)),
-        Err(fault) => Ok(Reply::Complaint(fault_line(heap, &request, fault)?)),
+        Ok(report) => Ok(report_text(heap, &request, &report)?),
+        Err(fault) => Err(Complaint::Line(fault_line(heap, &request, fault)?)),
     }
 }

@@ -1,6 +1,5 @@
 //! The answer to a request as text, and the line that is printed where there is none.
 ghost use Rattle.std.specs.Prelude.{◌≡◌, IfOk, string_bytes};
-ghost use Rattle.workshop.specs.Fields.{cipher_word};
 ghost use Rattle.keystreams.specs.Texts.{covered_text, message_text, report_text, nonce_octets, field_refused, reason_text, refusal_text, fault_line};
 
 use crate::fault::Fault;
@@ -9,29 +8,25 @@ use crate::report::{Covered, Report};
 use std::alloc::{AllocError, Global};
 use stream::figures::Figures;
 use stream::refusal::Refusal;
-use workshop::dump::{hex_dump, hex_text};
-use workshop::field::CipherName;
+use texts::dump::{Dump, HexDigits};
 use workshop::request::{Nonce, Request};
 
-// The word by which a cipher is asked for.
-fn cipher_word(cipher: CipherName) -> &'static str
-    ensures { result.now ≡ cipher_word cipher }
-{
-    match cipher {
-        CipherName::Grain128 => "grain128",
-        CipherName::Grain128Wide => "grain128x32",
-        CipherName::Grain128a => "grain128a",
-        CipherName::Grain128aWide => "grain128ax32",
-        CipherName::Sprout => "sprout",
-    }
-}
-
+#[tactic(auto, unfolding(crate::specs::Texts::covered_text))]
 fn covered_text(heap: Global, first: u32, message: &Covered) -> Result<String, AllocError>
     ensures { IfOk result (λ s. string_bytes s ≡ covered_text first message.now) }
 {
-    let plain = hex_dump(heap, first, message.plain.as_slice())?;
-    let covered = hex_dump(heap, first, message.covered.as_slice())?;
-    let uncovered = hex_dump(heap, first, message.uncovered.as_slice())?;
+    let plain = Dump {
+        first,
+        octets: message.plain.as_slice(),
+    };
+    let covered = Dump {
+        first,
+        octets: message.covered.as_slice(),
+    };
+    let uncovered = Dump {
+        first,
+        octets: message.uncovered.as_slice(),
+    };
     format!(in heap; "plain\n{plain}covered\n{covered}uncovered again\n{uncovered}")
 }
 
@@ -46,13 +41,17 @@ fn message_text(heap: Global, first: u32, message: &Option<Covered>) -> Result<S
 
 /// A report as text: lines for the cipher, the key and the IV, a dump of the keystream octets, and, where there is a message,
 /// dumps of it as it was given, covered, and uncovered again. The offsets of all dumps are places in the keystream.
+#[tactic(auto, unfolding(crate::specs::Texts::report_text))]
 pub fn report_text(heap: Global, request: &Request, report: &Report) -> Result<String, AllocError>
     ensures { IfOk result (λ s. string_bytes s ≡ report_text request.now report.now) }
 {
-    let cipher = cipher_word(request.cipher);
-    let key = hex_text(heap, request.key.as_slice())?;
-    let iv = hex_text(heap, report.iv.as_slice())?;
-    let keystream = hex_dump(heap, request.first, report.keystream.as_slice())?;
+    let cipher = request.cipher;
+    let key = HexDigits(request.key.as_slice());
+    let iv = HexDigits(report.iv.as_slice());
+    let keystream = Dump {
+        first: request.first,
+        octets: report.keystream.as_slice(),
+    };
     let message = message_text(heap, request.first, &report.message)?;
     format!(in heap;
         "cipher    {cipher}\nkey       {key}\niv        {iv}\nkeystream\n{keystream}{message}"
@@ -82,6 +81,7 @@ fn nonce_octets(figures: Figures, nonce: &Nonce) -> usize
     }
 }
 
+#[tactic(auto, unfolding(crate::specs::Texts::reason_text))]
 fn reason_text(
     heap: Global,
     figures: Figures,
@@ -108,6 +108,7 @@ fn reason_text(
     }
 }
 
+#[tactic(auto, unfolding(crate::specs::Texts::refusal_text))]
 fn refusal_text(
     heap: Global,
     request: &Request,
@@ -123,6 +124,7 @@ fn refusal_text(
 }
 
 /// One line without its end for a fault of a request: the field at fault, the refusal's number, and what it says.
+#[tactic(auto, unfolding(crate::specs::Texts::fault_line))]
 pub fn fault_line(heap: Global, request: &Request, fault: Fault) -> Result<String, AllocError>
     ensures { IfOk result (λ s. string_bytes s ≡ fault_line request.now fault) }
 {
