@@ -43,8 +43,9 @@ pub fn cover<E: Engine>(engine: &mut E, octets: &mut [u8])
     ensures covered { octets.new ≡ covering E.cipher (E.state engine.old) octets.old }
     ensures moves { E.state engine.new ≡ later E.cipher (8 * length octets.old) (E.state engine.old) }
 {
-    // not `chunks_mut(4)`: a proof knows no element that it lent once its loop is over
-    for start in (0..octets.len()).step_by(4) {
+    // not `chunks_mut(4)`: a proof knows no element that it lent once its loop is over; and not `step_by(4)`, which is slower
+    for i in 0..octets.len().div_ceil(4) {
+        let start = 4 * i;
         let end = octets.len().min(start + 4);
         let word = take_bits(engine, 8 * (end - start) as u32);
         mix(&mut octets[start..end], word);

@@ -1,7 +1,8 @@
 use Rattle.std.proofs.Common.{◌≡◌, ℕ, ◌+◌, ◌-◌, ◌*◌, ◌/◌, ◌%◌, ◌^◌, ◌<◌, ◌≤◌, min, List, ◌++◌, length, get_or, take, drop, sym, refl, ap, ◌∙◌, ap₂, append_assoc, append-nil, arith, length-drop, take-append-drop, length-take, take_all, drop-drop, ext_get_or}
 use borrow.Rule.Slice.PartMut.{put_mid, same_len_mid}
 use lib.Bits.{bit_xor}
-use Rattle.std.proofs.lemmas.List.{drop_all}
+use Rattle.std.proofs.lemmas.List.{drop_all, take_min, drop_min}
+use Rattle.std.proofs.lemmas.Grind.{div_ceil_times}
 use Rattle.std.proofs.lemmas.Slice.{take-put_mid, drop-put_mid}
 use Rattle.stream.specs.Bits.{packed}
 use Rattle.stream.specs.Ciphers.{Cipher, later, stream, cover}
@@ -50,44 +51,44 @@ part_covered c s next xs ys i d e word n end inside bits taken moved same mixed 
     let back = drop-put_mid i d xs ys e (omega arith) start (omega arith) in
     rw (front, back, covered) (append_assoc (take i xs) ys (cover c next rest))
 
+-- no more octets than there are
+capped : (c : Cipher) (s : c.State) (xs : List ℕ) (n e : ℕ) → e ≡ min n (length xs)
+    → take n xs ++ cover c s (drop n xs) ≡ take e xs ++ cover c s (drop e xs)
+capped c s xs n e h =
+    sym (ap₂ (λ ys zs. ys ++ cover c s zs) (ap (λ k. take k xs) h ∙ take_min n xs) (ap (λ k. drop k xs) h ∙ drop_min n xs))
+
 -- nothing is left to cover
 all_covered : (c : Cipher) (s : c.State) (xs : List ℕ) (n : ℕ) → length xs ≤ n → take n xs ++ cover c s (drop n xs) ≡ xs
 unfolding cover
 all_covered c s xs n h = rw (take_all, drop_all) (append-nil xs)
 
-pub loop-start-init : goal.loop-start-init
-loop-start-init g c = (refl, sym (later-zero g.E.Engine.cipher (8 * min 0 (length c.args.octets.now)) _ (omega arith)))
+pub loop-i-init : goal.loop-i-init
+loop-i-init g c = (refl, sym (later-zero g.E.Engine.cipher (8 * min (4 * 0) (length c.args.octets.now)) _ (omega arith)))
 
-pub loop-start-preserved : goal.loop-start-preserved
-loop-start-preserved g c =
+pub loop-i-preserved : goal.loop-i-preserved
+loop-i-preserved g c =
     let cipher = g.E.Engine.cipher in
     let start = g.E.Engine.state c.args.engine.now in
-    let inv = c.loop-start.invariant in
-    let same = c.loop-start.auto.octets in
-    let word = c.take_bits-word.ensures in (
-      part_covered cipher _ _ c.loop-start.octets _ _ _ _ _ _ (omega arith) (omega arith) (omega arith)
+    let inv = c.loop-i.invariant in
+    let same = c.loop-i.auto.octets in
+    let word = c.take_bits-word.ensures in
+    let words = div_ceil_times (length c.args.octets.now) 4 (omega arith) in
+    let more : 4 * c.loop-i.i < length c.args.octets.now = omega (arith, words.1, c.div_ceil-i-end.ensures, c.loop-i-test.true) in
+    let size = same_len_mid _ _ c.loop-i.octets _ c.mix.auto.octets in (
+      capped cipher _ _ _ c.min-end.result (omega (arith, size))
+          ∙ part_covered cipher _ _ c.loop-i.octets _ _ _ _ _ _ (omega arith) (omega arith) (omega arith)
           word.taken word.moves c.mix.auto.octets c.mix.ensures
           ∙ inv.0,
       later_more cipher start _ _ _ _ _ inv.1 word.moves (omega arith),
     )
 
-pub returns-clause-covered : goal.returns-clause-covered
-returns-clause-covered g c =
-    sym (all_covered g.E.Engine.cipher (g.E.Engine.state c.loop-start.engine) c.loop-start.octets c.loop-start.start (omega arith))
-    ∙ c.loop-start.invariant.0
-
-pub returns-2-clause-covered : goal.returns-2-clause-covered
-returns-2-clause-covered g c =
+pub returns : goal.returns
+returns g c =
     let cipher = g.E.Engine.cipher in
-    let word = c.take_bits-word.ensures in
-    let same = c.loop-start.auto.octets in
-    let whole = part_covered cipher _ _ c.loop-start.octets _ _ _ c.min-end.result _ _ (omega arith) (omega arith) (omega arith)
-    word.taken word.moves c.mix.auto.octets c.mix.ensures
-    ∙ c.loop-start.invariant.0 in
-    let size = same_len_mid _ _ c.loop-start.octets _ c.mix.auto.octets in
-    sym (all_covered cipher _ _ c.min-end.result (omega (arith, size))) ∙ whole
-
-pub returns-2-clause-moves : goal.returns-2-clause-moves
-returns-2-clause-moves g c =
-    let same = c.loop-start.auto.octets in
-    later_more g.E.Engine.cipher (g.E.Engine.state c.args.engine.now) _ _ _ _ _ c.loop-start.invariant.1 c.take_bits-word.ensures.moves (omega arith)
+    let inv = c.loop-i.invariant in
+    let words = div_ceil_times (length c.args.octets.now) 4 (omega arith) in
+    let end : length c.args.octets.now ≤ 4 * c.loop-i.i = omega (arith, words.0, c.div_ceil-i-end.ensures, c.loop-i-test.false) in
+    record {
+      covered = sym (all_covered cipher (g.E.Engine.state c.loop-i.engine) c.loop-i.octets (4 * c.loop-i.i) (omega arith)) ∙ inv.0;
+      moves = inv.1 ∙ ap (λ n. later cipher n (g.E.Engine.state c.args.engine.now)) (omega arith);
+    }
