@@ -84,7 +84,9 @@ impl<V: Version, S: Stride> Engine for Grain<V, S> {
     }
 
     fn draw(&mut self, n: u32) -> (u32, u32) {
-        let drawn = self.pair.clocked(FamilyTaps::<V>::new(), n, Self::STRIDE);
+        let drawn = self
+            .pair
+            .clocked(FamilyTaps::<V>(PhantomData), n, Self::STRIDE);
         self.pair = drawn.pair;
         (drawn.bits, drawn.count)
     }
@@ -95,6 +97,6 @@ impl<V: Version, S: Stride> Reversible for Grain<V, S> {
         ensures alone { (t : Registers) → next V.member t ≡ held_in 128 self.old.pair → held_in 128 self.new.pair ≡ t }
         ensures found { next V.member (held_in 128 self.new.pair) ≡ held_in 128 self.old.pair }
     {
-        self.pair = self.pair.undone(FamilyTaps::<V>::new());
+        self.pair = self.pair.undone(FamilyTaps::<V>(PhantomData));
     }
 }

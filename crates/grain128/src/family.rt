@@ -14,18 +14,7 @@ use std::marker::PhantomData;
 
 /// The taps of a cipher of the family.
 #[derive(Clone, Copy)]
-pub(crate) struct FamilyTaps<V> {
-    version: PhantomData<V>,
-}
-
-impl<V: Version> FamilyTaps<V> {
-    /// The cipher's taps.
-    pub(crate) fn new() -> Self {
-        FamilyTaps {
-            version: PhantomData,
-        }
-    }
-}
+pub struct FamilyTaps<V>(pub PhantomData<V>);
 
 impl<V: Version> Taps for FamilyTaps<V> {
     ghost shape = { λ _. shape V.member };
@@ -69,5 +58,5 @@ pub(crate) fn started<V: Version>(key: &[u8], iv: &[u8]) -> Pair
     requires iv { length iv.now ≡ 12 }
     ensures { held_in 128 result ≡ times 256 (initial V.member) (loaded V.member key.now iv.now) }
 {
-    loaded::<V>(key, iv).initialised(FamilyTaps::<V>::new(), 256)
+    loaded::<V>(key, iv).initialised(FamilyTaps::<V>(PhantomData), 256)
 }

@@ -2,6 +2,6 @@
 #![tactic(auto)]
 
 pub mod engines;
-mod family;
+pub mod family;
 pub mod strides;
 pub mod versions;

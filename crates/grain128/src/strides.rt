@@ -46,5 +46,6 @@ impl Stride for Stride32 {
 /// The engines of stride 1 and of stride 32 are of one cipher: `Grain128` and `Grain128x32`, and `Grain128a` and `Grain128ax32`, agree in figures but the
 /// stride, in refusals and in keystream, for every key and IV. This call states it; it computes nothing.
 pub fn strides_are_of_one_cipher()
-    ensures { OneCipher grain128 grain128x32 × OneCipher grain128a grain128ax32 }
+    ensures plain { OneCipher grain128 grain128x32 }
+    ensures revised { OneCipher grain128a grain128ax32 }
 {}

@@ -5,6 +5,8 @@ ghost use Rattle.registers.specs.Words.{word};
 
 use crate::window::Window;
 
+// The two windows stay two parameters: a tap then reads as in the ciphers' public descriptions, s for the linear register and b for the nonlinear one.
+
 /// The feedbacks and the output of a pair of registers, worked out for up to 32 clocks at once.
 pub trait Taps: Copy {
     ghost shape: { Self → Shape };

@@ -4,4 +4,4 @@ use Rattle.grain128.proofs.OneCipher.{any_strides}
 use Rattle.grain128.proofs.strides.strides_are_of_one_cipher.Goals as goal
 
 pub returns : goal.returns
-returns c = (any_strides plain.member 1 32 _ _ _ _, any_strides other.member 1 32 _ _ _ _)
+returns c = record { plain = any_strides plain.member 1 32 _ _ _ _; revised = any_strides other.member 1 32 _ _ _ _ }
