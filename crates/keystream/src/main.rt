@@ -11,10 +11,7 @@ use texts::words::split_words;
 // The words of the command line, or where it has none those of the standard input.
 fn given_words(rt: &HostRuntime) -> anyhow::Result<Vec<String>> {
     let heap = rt.alloc();
-    let mut words = Vec::new(heap);
-    for word in env::args(rt)?.skip(1) {
-        words.push(word)?;
-    }
+    let words: Vec<String> = env::args(rt)?.skip(1).collect(heap)?;
     if words.is_empty() {
         let text = io::read_to_string(heap, rt.stdin())?;
         return Ok(split_words(heap, text.as_str())?);

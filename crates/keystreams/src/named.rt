@@ -1,5 +1,4 @@
-//! The engines by the names of their ciphers. Each function has its own match over the five names: a trait that runs what it is
-//! given over the engine of a name would need a struct and an impl for each of the two.
+//! The engines by the names of their ciphers.
 ghost use Rattle.std.specs.Prelude.{◌≡◌, MatchResult};
 ghost use Rattle.keystreams.specs.Answers.{Answered, AnswerRefused};
 ghost use Rattle.keystreams.specs.Named.{cipher_of};
@@ -14,6 +13,9 @@ use stream::engine::Engine;
 use stream::figures::Figures;
 use texts::names::CipherName;
 use workshop::request::Request;
+
+// Each of the two functions has a match of its own: a trait that runs what it is given over the engine of a name would need a
+// struct and an impl for each of them.
 
 // The figures of the cipher of this name.
 pub(crate) fn figures_named(cipher: CipherName) -> Figures

@@ -1,3 +1,4 @@
 pub mod Exits
 pub mod Lines
 pub mod Pairs
+pub mod Readings

@@ -1,10 +1,9 @@
 -- The words of a text: white space stands between them, and a '#' with what follows it on its line is a comment.
 -- `chars bs` is the characters of the text bs, `encode c` the bytes of the character c, and `is_whitespace c` says that c is white space.
-use Rattle.std.specs.Prelude.{ℕ, Bool, true, false, cond, not, List, [], ◌∷◌, ◌++◌, map, vec_items, string_bytes, ◌==◌}
+use Rattle.std.specs.Prelude.{ℕ, Bool, true, false, cond, not, List, [], ◌∷◌, ◌++◌, ◌==◌}
 use Rattle.std.proofs.Math.Utf8.{encode}
 use Rattle.std.specs.Char.{is_whitespace}
 use Rattle.std.specs.Str.{chars}
-use Rattle.texts.specs.declared.words.WordReader.{WordReader}
 
 -- a word that has come to its end, if it has a byte
 abbrev pub ended : List ℕ → List (List ℕ)
@@ -20,7 +19,3 @@ words_after false word (c ∷ cs) = cond (c == 35) (ended word ++ words_after tr
 -- the words of a text
 abbrev pub words_of : List ℕ → List (List ℕ)
 words_of bs = words_after false [] (chars bs)
-
--- the words that a reader will have found where the characters cs are to come
-abbrev pub found_after : WordReader → List ℕ → List (List ℕ)
-found_after r cs = map string_bytes (vec_items r.words) ++ words_after r.comment (string_bytes r.word) cs

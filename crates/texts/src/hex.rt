@@ -35,6 +35,7 @@ impl<T: Drop> From<AllocFailed<T>> for HexFault {
 }
 
 /// What is wrong with hexadecimal digits, in a few words.
+// written by hand, as a derived one promises no text
 impl fmt::Display for HexFault {
     ghost output = { λ x. Some (hex_fault_text x) };
 

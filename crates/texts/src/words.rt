@@ -1,47 +1,29 @@
 //! A text cut into words.
-ghost use Rattle.std.specs.Prelude.{◌≡◌, ℕ, List, [], ◌∷◌, ◌++◌, map, IfOk, string_bytes, OnOk};
-ghost use Rattle.texts.specs.Words.{ended, found_after, words_of};
+ghost use Rattle.std.specs.Prelude.{◌≡◌, ◌++◌, map, IfOk, string_bytes, OnOk, ◌==◌};
+ghost use Rattle.std.specs.Str.{NoCharPasses};
+ghost use Rattle.texts.specs.Words.{words_of};
 
 use std::alloc::{AllocError, Global};
-use std::mem;
 
-// How far a text has been cut: the words that came to their end, the word so far, and whether a comment is being passed over.
-#[derive(Drop)]
-struct WordReader {
-    words: Vec<String>,
-    word: String,
-    comment: bool,
+// Adds the words of a text that has no `#`.
+fn push_words(words: &mut Vec<String>, heap: Global, text: &str) -> Result<(), AllocError>
+    requires { NoCharPasses (λ c. c == 35) text.now }
+    ensures { OnOk result (map string_bytes words.new.items ≡ map string_bytes words.old.items ++ words_of text.now) }
+{
+    for word in text.split_whitespace() {
+        words.push(String::from_str(heap, word)?)?;
+    }
+    Ok(())
 }
 
-impl WordReader {
-    // Takes the word so far, if it has a byte, for a whole word.
-    fn end_word(&mut self, heap: Global) -> Result<(), AllocError>
-        ensures { IfOk result (λ _.
-            (map string_bytes self.new.words.items ≡ map string_bytes self.old.words.items ++ ended (string_bytes self.old.word))
-            × (string_bytes self.new.word ≡ [])
-            × (self.new.comment ≡ self.old.comment)) }
-    {
-        if !self.word.is_empty() {
-            let word = mem::replace(&mut self.word, String::new(heap));
-            self.words.push(word)?;
-        }
-        Ok(())
-    }
-
-    fn read(&mut self, heap: Global, c: char) -> Result<(), AllocError>
-        ensures { OnOk result ((cs : List ℕ) → found_after self.new cs ≡ found_after self.old (c ∷ cs)) }
-    {
-        if self.comment {
-            self.comment = c != '\n';
-        } else if c == '#' {
-            self.end_word(heap)?;
-            self.comment = true;
-        } else if c.is_whitespace() {
-            self.end_word(heap)?;
-        } else {
-            self.word.push(c)?;
-        }
-        Ok(())
+// Adds the words of a line, up to its first `#`.
+fn push_line(words: &mut Vec<String>, heap: Global, line: &str) -> Result<(), AllocError>
+    requires { NoCharPasses (λ c. c == 10) line.now }
+    ensures { OnOk result (map string_bytes words.new.items ≡ map string_bytes words.old.items ++ words_of line.now) }
+{
+    match line.split_once('#') {
+        Some((shown, _)) => push_words(words, heap, shown),
+        None => push_words(words, heap, line),
     }
 }
 
@@ -49,14 +31,9 @@ impl WordReader {
 pub fn split_words(heap: Global, text: &str) -> Result<Vec<String>, AllocError>
     ensures { IfOk result (λ v. map string_bytes v.items ≡ words_of text.now) }
 {
-    let mut reader = WordReader {
-        words: Vec::new(heap),
-        word: String::new(heap),
-        comment: false,
-    };
-    for c in text.chars() {
-        reader.read(heap, c)?;
+    let mut words = Vec::new(heap);
+    for line in text.split('\n') {
+        push_line(&mut words, heap, line)?;
     }
-    reader.end_word(heap)?;
-    Ok(reader.words)
+    Ok(words)
 }

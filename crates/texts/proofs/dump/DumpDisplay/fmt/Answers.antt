@@ -1,4 +1,4 @@
-use Rattle.std.proofs.Common.{◌≡◌, ◌^◌, ◌<◌, [], ◌++◌, refl, ◌∙◌, rules}
+use Rattle.std.proofs.Common.{◌≡◌, [], ◌++◌, refl, ◌∙◌, rules}
 use Rattle.std.proofs.Output.{has_written_append, has_written_of_eq}
 use Rattle.std.specs.Slice.Iter.{chunks_rest, chunks_size}
 use Rattle.texts.specs.Dump.{dump_line}
@@ -9,8 +9,7 @@ pub loop-octets-init : goal.loop-octets-init
 loop-octets-init g c =
     let size : chunks_size c.into_iter-octets-iterator.result ≡ 16 = search rules in
     let rest : chunks_rest c.into_iter-octets-iterator.result ≡ c.args.self.now.octets.now = search rules in
-    let fits : c.args.self.now.first < 2 ^ 32 = search rules in
-    (size, ([], dumped_none _ _ _ fits rest, λ p. written_none _ _ p))
+    (size, ([], dumped_none c.args.self.now.first c.args.self.now.octets.now _ (search rules) rest, λ p. written_none _ _ p))
 
 pub loop-octets-preserved : goal.loop-octets-preserved
 loop-octets-preserved g c =
