@@ -1,8 +1,7 @@
-use Rattle.std.proofs.Common.{◌≡◌, ℕ, ◌+◌, ◌-◌, ◌*◌, ◌/◌, ◌%◌, ◌^◌, ◌<◌, ◌≤◌, min, List, ◌++◌, length, get_or, take, drop, sym, refl, ap, ◌∙◌, ap₂, append_assoc, append-nil, arith, length-drop, take-append-drop, length-take, take_all, drop-drop, ext_get_or}
-use borrow.Rule.Slice.PartMut.{put_mid, same_len_mid}
+use Rattle.std.proofs.Common.{◌≡◌, ℕ, ◌+◌, ◌-◌, ◌*◌, ◌/◌, ◌%◌, ◌^◌, ◌<◌, ◌≤◌, List, ◌++◌, length, get_or, take, drop, sym, refl, ap, ◌∙◌, ap₂, append_assoc, append-nil, arith, length-drop, take-append-drop, length-take, take_all, drop-drop, ext_get_or}
+use borrow.Rule.Slice.PartMut.{put_mid}
 use lib.Bits.{bit_xor}
-use Rattle.std.proofs.lemmas.List.{drop_all, take_min, drop_min}
-use Rattle.std.proofs.lemmas.Grind.{div_ceil_times}
+use Rattle.std.proofs.lemmas.List.{drop_all}
 use Rattle.std.proofs.lemmas.Slice.{take-put_mid, drop-put_mid}
 use Rattle.stream.specs.Bits.{packed}
 use Rattle.stream.specs.Ciphers.{Cipher, later, stream, cover}
@@ -51,44 +50,34 @@ part_covered c s next xs ys i d e word n end inside bits taken moved same mixed 
     let back = drop-put_mid i d xs ys e (omega arith) start (omega arith) in
     rw (front, back, covered) (append_assoc (take i xs) ys (cover c next rest))
 
--- no more octets than there are
-capped : (c : Cipher) (s : c.State) (xs : List ℕ) (n e : ℕ) → e ≡ min n (length xs)
-    → take n xs ++ cover c s (drop n xs) ≡ take e xs ++ cover c s (drop e xs)
-capped c s xs n e h =
-    sym (ap₂ (λ ys zs. ys ++ cover c s zs) (ap (λ k. take k xs) h ∙ take_min n xs) (ap (λ k. drop k xs) h ∙ drop_min n xs))
-
 -- nothing is left to cover
 all_covered : (c : Cipher) (s : c.State) (xs : List ℕ) (n : ℕ) → length xs ≤ n → take n xs ++ cover c s (drop n xs) ≡ xs
 unfolding cover
 all_covered c s xs n h = rw (take_all, drop_all) (append-nil xs)
 
-pub loop-i-init : goal.loop-i-init
-loop-i-init g c = (refl, sym (later-zero g.E.Engine.cipher (8 * min (4 * 0) (length c.args.octets.now)) _ (omega arith)))
+pub loop-done-init : goal.loop-done-init
+loop-done-init g c = (omega arith, refl, sym (later-zero g.E.Engine.cipher 0 _ refl))
 
-pub loop-i-preserved : goal.loop-i-preserved
-loop-i-preserved g c =
+pub loop-done-preserved : goal.loop-done-preserved
+loop-done-preserved g c =
     let cipher = g.E.Engine.cipher in
     let start = g.E.Engine.state c.args.engine.now in
-    let inv = c.loop-i.invariant in
-    let same = c.loop-i.auto.octets in
-    let word = c.take_bits-word.ensures in
-    let words = div_ceil_times (length c.args.octets.now) 4 (omega arith) in
-    let more : 4 * c.loop-i.i < length c.args.octets.now = omega (arith, words.1, c.div_ceil-i-end.ensures, c.loop-i-test.true) in
-    let size = same_len_mid _ _ c.loop-i.octets _ c.mix.auto.octets in (
-      capped cipher _ _ _ c.min-end.result (omega (arith, size))
-          ∙ part_covered cipher _ _ c.loop-i.octets _ _ _ _ _ _ (omega arith) (omega arith) (omega arith)
+    let inv = c.loop-done.invariant in
+    let word = c.take_bits-word.ensures in (
+      omega arith,
+      part_covered cipher _ _ c.loop-done.octets _ _ _ _ _ _ (omega arith) (omega arith) (omega arith)
           word.taken word.moves c.mix.auto.octets c.mix.ensures
-          ∙ inv.0,
-      later_more cipher start _ _ _ _ _ inv.1 word.moves (omega arith),
+          ∙ inv.1,
+      later_more cipher start _ _ _ _ _ inv.2 word.moves (omega arith),
     )
 
 pub returns : goal.returns
 returns g c =
     let cipher = g.E.Engine.cipher in
-    let inv = c.loop-i.invariant in
-    let words = div_ceil_times (length c.args.octets.now) 4 (omega arith) in
-    let end : length c.args.octets.now ≤ 4 * c.loop-i.i = omega (arith, words.0, c.div_ceil-i-end.ensures, c.loop-i-test.false) in
+    let start = g.E.Engine.state c.args.engine.now in
+    let inv = c.loop-done.invariant in
+    let all : 8 * c.loop-done.done ≡ 8 * length c.args.octets.now = omega arith in
     record {
-      covered = sym (all_covered cipher (g.E.Engine.state c.loop-i.engine) c.loop-i.octets (4 * c.loop-i.i) (omega arith)) ∙ inv.0;
-      moves = inv.1 ∙ ap (λ n. later cipher n (g.E.Engine.state c.args.engine.now)) (omega arith);
+      covered = sym (all_covered cipher _ _ _ c.loop-done-test.false) ∙ inv.1;
+      moves = inv.2 ∙ ap (λ n. later cipher n start) all;
     }
