@@ -48,8 +48,8 @@ pub record Dumped (start : ℕ) (xs text rest : List ℕ) (offset : ℕ) : Type 
   pub few : 16 * lines < length xs + 16
 
 -- no line
-pub dumped_none : (start : ℕ) (xs rest : List ℕ) → start < 2 ^ 32 → rest ≡ xs → Dumped start xs [] rest start
-dumped_none start xs rest fits all = record { lines = 0; written = refl; left = all; next = omega arith; few = omega arith }
+pub dumped_none : (start offset : ℕ) (xs rest : List ℕ) → offset < 2 ^ 32 → offset ≡ start → rest ≡ xs → Dumped start xs [] rest offset
+dumped_none start offset xs rest fits same all = record { lines = 0; written = refl; left = all; next = omega arith; few = omega arith }
 
 -- one more line
 pub dumped_more : (start : ℕ) (xs text rest row after more : List ℕ) (offset : ℕ) → Dumped start xs text rest offset → 0 < length rest → rest ≡ row ++ after → length row ≡ min 16 (length rest) → more ≡ text ++ dump_line offset row → Dumped start xs more after (min (offset + 16) 0xffff_ffff)

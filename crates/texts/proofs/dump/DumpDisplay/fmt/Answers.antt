@@ -9,7 +9,7 @@ pub loop-octets-init : goal.loop-octets-init
 loop-octets-init g c =
     let size : chunks_size c.into_iter-octets-iterator.result ≡ 16 = search rules in
     let rest : chunks_rest c.into_iter-octets-iterator.result ≡ c.args.self.now.octets.now = search rules in
-    (size, ([], dumped_none c.args.self.now.first c.args.self.now.octets.now _ (search rules) rest, λ p. written_none _ _ p))
+    (size, ([], dumped_none c.args.self.now.first _ c.args.self.now.octets.now _ (search rules) refl rest, λ p. written_none _ _ p))
 
 pub loop-octets-preserved : goal.loop-octets-preserved
 loop-octets-preserved g c =
