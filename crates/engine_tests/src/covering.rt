@@ -1,9 +1,6 @@
 //! Session IVs, and covering octets.
 use crate::shared::*;
-use grain128::parallel128::*;
-use grain128::parallel128a::*;
-use grain128::serial128::*;
-use grain128::serial128a::*;
+use grain128::engines::*;
 use sprout::engine::*;
 use std::alloc::Global;
 use std::process::Abort;

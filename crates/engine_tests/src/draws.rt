@@ -1,9 +1,6 @@
 //! Draws of any size, and steps forward and back.
 use crate::shared::*;
-use grain128::parallel128::*;
-use grain128::parallel128a::*;
-use grain128::serial128::*;
-use grain128::serial128a::*;
+use grain128::engines::*;
 use sprout::engine::*;
 use std::process::Abort;
 use std::test::Fail;

@@ -1,9 +1,6 @@
 //! Refused loads.
 use crate::shared::*;
-use grain128::parallel128::*;
-use grain128::parallel128a::*;
-use grain128::serial128::*;
-use grain128::serial128a::*;
+use grain128::engines::*;
 use sprout::engine::*;
 use std::process::Abort;
 use std::test::Fail;
@@ -13,60 +10,62 @@ use stream::refusal::*;
 /// An IV whose bit 0 is one.
 const ODD: [u8; 12] = *b"\x01twelve more";
 
-/// Checks that a load is refused and leaves the engine as it was, which the other one still shows.
-fn refused<E: Engine>(
-    rt: &impl Abort,
-    engine: &mut E,
-    still: &mut E,
-    key: &[u8],
-    iv: &[u8],
-    why: Refusal,
-) {
-    assert_eq!(rt; E::refusal(key, iv), Some(why), "what the check answers");
-    assert_eq!(rt; engine.load(key, iv), Err(why), "what the load answers");
-    agree(rt, engine, still, "a refused load changed the engine");
+/// An engine whose loads are refused, and one that shows what it must still hold.
+#[derive(Drop)]
+struct Refusing<E> {
+    engine: E,
+    still: E,
 }
 
-/// Checks that wrong lengths are refused, that of the key first, whatever bit 0 of the IV is.
-fn refuses_lengths<E: Engine>(rt: &impl Abort, engine: &mut E, still: &mut E) {
-    for iv in [&IV[0..12], &ODD[0..12], &ODD[0..11]] {
-        refused(rt, engine, still, &KEY[0..15], iv, Refusal::KeyLength);
+impl<E: Engine> Refusing<E> {
+    /// Checks that a load is refused and leaves the engine as it was.
+    fn refuses(&mut self, rt: &impl Abort, key: &[u8], iv: &[u8], why: Refusal) {
+        assert_eq!(rt; E::check(key, iv), Err(why), "what the check answers");
+        assert_eq!(rt;
+            self.engine.load(key, iv),
+            Err(why),
+            "what the load answers"
+        );
+        agree(
+            rt,
+            &mut self.engine,
+            &mut self.still,
+            "a refused load changed the engine",
+        );
     }
-    refused(
-        rt,
-        engine,
-        still,
-        b"seventeen octets.",
-        &IV,
-        Refusal::KeyLength,
-    );
-    for iv in [&IV[0..11], &ODD[0..11], &KEY[0..13]] {
-        refused(rt, engine, still, &KEY, iv, Refusal::LabelLength);
+
+    /// Checks that wrong lengths are refused, that of the key first, whatever bit 0 of the IV is.
+    fn refuses_lengths(&mut self, rt: &impl Abort) {
+        for iv in [&IV[0..12], &ODD[0..12], &ODD[0..11]] {
+            self.refuses(rt, &KEY[0..15], iv, Refusal::KeyLength);
+        }
+        self.refuses(rt, b"seventeen octets.", &IV, Refusal::KeyLength);
+        for iv in [&IV[0..11], &ODD[0..11], &KEY[0..13]] {
+            self.refuses(rt, &KEY, iv, Refusal::LabelLength);
+        }
     }
 }
 
 /// Checks the loads of one cipher, which forbids that bit 0 of the IV is one or does not.
 fn loads<E: Engine + Drop>(
     rt: &impl Abort,
-    mut engine: E,
-    mut still: E,
+    engine: E,
+    still: E,
     forbids: bool,
 ) -> Result<(), Fail> {
-    assert_eq!(rt; E::refusal(&KEY, &IV), None, "bit 0 of the IV is zero");
-    start(&mut engine)?;
-    start(&mut still)?;
-    refuses_lengths(rt, &mut engine, &mut still);
+    let mut both = Refusing { engine, still };
+    assert_eq!(rt; E::check(&KEY, &IV), Ok(()), "bit 0 of the IV is zero");
+    start(&mut both.engine)?;
+    start(&mut both.still)?;
+    both.refuses_lengths(rt);
     if forbids {
-        refused(
-            rt,
-            &mut engine,
-            &mut still,
-            &KEY,
-            &ODD,
-            Refusal::ForbiddenBit,
-        );
+        both.refuses(rt, &KEY, &ODD, Refusal::ForbiddenBit);
     } else {
-        assert_eq!(rt; engine.load(&KEY, &ODD), Ok(()), "bit 0 of the IV is free");
+        assert_eq!(rt;
+            both.engine.load(&KEY, &ODD),
+            Ok(()),
+            "bit 0 of the IV is free"
+        );
     }
     Ok(())
 }
@@ -97,9 +96,5 @@ fn sprout_takes_63_and_refuses_64_in_octet_8(rt: HostRuntime) {
     iv[8] = 64;
     assert_eq!(rt; engine.load(&key, &iv), Err(Refusal::ForbiddenBit), "64");
     iv[8] = 128;
-    assert_eq!(rt;
-        <Sprout as Engine>::refusal(&key, &iv),
-        Some(Refusal::ForbiddenBit),
-        "128"
-    );
+    assert_eq!(rt; Sprout::check(&key, &iv), Err(Refusal::ForbiddenBit), "128");
 }

@@ -1,8 +1,5 @@
 //! Printed keystream.
-use grain128::parallel128::*;
-use grain128::parallel128a::*;
-use grain128::serial128::*;
-use grain128::serial128a::*;
+use grain128::engines::*;
 use sprout::engine::*;
 use std::alloc::Global;
 use std::process::Abort;
@@ -91,11 +88,8 @@ const SPROUT: [Vector; 2] = [
 
 /// The value of a hex digit.
 fn digit(octet: u8) -> Result<u8, Fail> {
-    match octet {
-        b'0'..=b'9' => Ok(octet - b'0'),
-        b'a'..=b'f' => Ok(octet - b'a' + 10),
-        _ => Err(Fail::new("no hex digit")),
-    }
+    let value = char::from(octet).to_digit(16).ok_or("no hex digit")?;
+    Ok(value as u8)
 }
 
 /// The octets that hex digits show.

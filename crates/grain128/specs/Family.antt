@@ -1,5 +1,5 @@
 -- What Grain-128 and Grain-128a share: registers of 128 bits, a key of 16 octets, an IV of 12, 256 initialisation clocks.
-use Rattle.std.specs.Prelude.{◌≡◌, ℕ, ◌-◌, ◌≤◌, Bool, true, false, T, List, ◌++◌, replicate, slice_set}
+use Rattle.std.specs.Prelude.{◌≡◌, ℕ, ◌≤◌, Bool, T, List, ◌++◌, slice_set}
 use Rattle.std.proofs.Common.{lit≤}
 use Rattle.stream.specs.Bits.{octet_bits, times}
 use Rattle.stream.specs.Ciphers.{Cipher, Bounds}
@@ -52,6 +52,10 @@ shape m = record {
 abbrev pub loaded : Member → List ℕ → List ℕ → Registers
 loaded m key iv = record { linear = octet_bits iv ++ m.tail; nonlinear = octet_bits key }
 
+-- one clock
+abbrev pub next : Member → Registers → Registers
+next m = clock linear m.nonlinear
+
 -- one clock of the initialisation: z is added to both new bits
 abbrev pub initial : Member → Registers → Registers
 initial m = clock (linear ⊕ m.output) (m.nonlinear ⊕ m.output)
@@ -76,7 +80,7 @@ bounds stride low high = record {
 abbrev pub cipher : Member → (stride : ℕ) → 1 ≤ stride → stride ≤ 32 → Cipher
 cipher m stride low high = record {
   State = Registers;
-  next = clock linear m.nonlinear;
+  next = next m;
   output = λ t. value_at t m.output;
   start = λ key iv. times 256 (initial m) (loaded m key iv);
   forbids = m.forbids;
@@ -84,7 +88,3 @@ cipher m stride low high = record {
   bounds = bounds stride low high;
   forbids_free = m.forbids_free;
 }
-
--- a key in b, and an IV in s with so many ones after it and zeros to its end
-abbrev pub filled : List ℕ → List ℕ → ℕ → Registers
-filled key iv ones = record { linear = octet_bits iv ++ (replicate ones true ++ replicate (32 - ones) false); nonlinear = octet_bits key }

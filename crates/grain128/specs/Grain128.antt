@@ -1,6 +1,7 @@
 -- Grain-128.
-use Rattle.std.specs.Prelude.{true, false, replicate, refl}
+use Rattle.std.specs.Prelude.{◌≡◌, true, false, replicate, refl}
 use Rattle.std.proofs.Common.{lit≤}
+use Rattle.stream.specs.Bits.{bit, bits, first}
 use Rattle.stream.specs.Ciphers.{Cipher}
 use Rattle.registers.specs.Polynomials.{Poly, S, B, ◌⊕◌, ◌⊗◌}
 use Rattle.grain128.specs.Family.{Member, cipher}
@@ -26,6 +27,11 @@ member = record {
   nonlinear_lone = tt;
   forbids_free = λ iv i x low high. refl;
 }
+
+-- the tail as a number
+pub tail_whole : bits 32 0xffff_ffff ≡ member.tail
+unfolding bits first bit
+tail_whole = refl
 
 -- at stride 1 and at stride 32
 abbrev pub grain128 : Cipher

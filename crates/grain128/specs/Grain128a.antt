@@ -1,7 +1,7 @@
 -- Grain-128a in its mode without authentication, in which every z is keystream: Grain-128 with three changes.
-use Rattle.std.specs.Prelude.{◌≡◌, ℕ, ◌≤◌, true, false, List, [], ◌∷◌, ◌++◌, replicate, slice_set}
+use Rattle.std.specs.Prelude.{◌≡◌, ℕ, ◌≤◌, true, false, List, [], ◌∷◌, ◌++◌, replicate, slice_set, refl}
 use Rattle.std.proofs.Common.{ap, arith, lit≤, get_or-set_other}
-use Rattle.stream.specs.Bits.{bit, octets_bit}
+use Rattle.stream.specs.Bits.{bit, bits, first, octets_bit}
 use Rattle.stream.specs.Ciphers.{Cipher}
 use Rattle.registers.specs.Polynomials.{S, B, ◌⊕◌, ◌⊗◌}
 use Rattle.grain128.specs.Family.{Member, cipher}
@@ -23,6 +23,11 @@ member = record {
   nonlinear_lone = tt;
   forbids_free = first-bit_free;
 }
+
+-- the tail as a number
+pub tail_but_last : bits 32 0x7fff_ffff ≡ member.tail
+unfolding bits first bit
+tail_but_last = refl
 
 -- at stride 1 and at stride 32
 abbrev pub grain128a : Cipher

@@ -1,10 +1,7 @@
 //! Frames in every order.
 use crate::shared::*;
 use column::store::*;
-use grain128::parallel128::*;
-use grain128::parallel128a::*;
-use grain128::serial128::*;
-use grain128::serial128a::*;
+use grain128::engines::*;
 use marks::store::MarkStore;
 use receiver::Receiver;
 use sender::resting::Resting;

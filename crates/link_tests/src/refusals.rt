@@ -1,6 +1,6 @@
 //! Refused calls.
 use crate::shared::*;
-use grain128::parallel128::*;
+use grain128::engines::*;
 use marks::store::MarkStore;
 use receiver::{Received, Receiver};
 use sender::resting::Resting;

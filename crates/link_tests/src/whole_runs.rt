@@ -1,7 +1,6 @@
 //! Whole runs, from steps given as data.
 use crate::shared::*;
-use grain128::parallel128::*;
-use grain128::serial128::*;
+use grain128::engines::*;
 use marks::store::MarkStore;
 use receiver::Received;
 use runs::calls::{

@@ -1,14 +1,6 @@
 -- Masks and shifts as the code writes them.
-use Rattle.std.proofs.Common.{◌≡◌, ℕ, ◌+◌, ◌-◌, ◌*◌, ◌/◌, ◌%◌, ◌^◌, ◌<◌, ◌≤◌, ap, ◌∙◌, ap₂, mod-lt, arith, pow_pos, shl_exact, shr_lt}
+use Rattle.std.proofs.Common.{◌≡◌, ℕ, ◌+◌, ◌*◌, ◌/◌, ◌%◌, ◌^◌, ◌<◌, ◌≤◌, ap, ◌∙◌, ap₂, mod-lt, arith, pow_pos, shl_exact, shr_lt}
 use lib.Bits.{bit_and, bit_or, and_mask, or_shifted, or_shifted_r}
-use Rattle.std.proofs.lemmas.Nat.{one_shl}
-
--- a mask of m ones keeps the lowest m bits
-pub masked : (x m w : ℕ) → m < w → bit_and x ((1 * 2 ^ m) % 2 ^ w - 1) ≡ x % 2 ^ m
-masked x m w h = ap (λ n. bit_and x (n - 1)) (one_shl m w h) ∙ and_mask x m
-
-pub mask_whole : (m w : ℕ) → m < w → 1 ≤ (1 * 2 ^ m) % 2 ^ w
-mask_whole m w h = omega (arith, one_shl m w h, pow_pos m)
 
 -- a low part, and above it m bits that fit a word of w
 pub stacked : (lo x m k w : ℕ) → lo < 2 ^ k → m + k ≤ w → bit_or lo ((x % 2 ^ m * 2 ^ k) % 2 ^ w) ≡ x % 2 ^ m * 2 ^ k + lo

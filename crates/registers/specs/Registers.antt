@@ -2,7 +2,7 @@
 use Rattle.std.specs.Prelude.{ℕ, ◌+◌, ◌≤◌, Bool, false, T, List, [], ◌∷◌, ◌++◌, slice_index_or}
 use Rattle.stream.specs.Bits.{bits}
 use Rattle.registers.specs.declared.pair.Pair.{Pair}
-use Rattle.registers.specs.Polynomials.{Poly, value, within, without_b, lone_s, lone_b}
+use Rattle.registers.specs.Polynomials.{Poly, ◌⊕◌, value, within, without_b, lone_s, lone_b}
 
 pub record Registers : Type 0 where
   pub linear : List Bool
@@ -54,3 +54,19 @@ pub record Shape : Type 0 where
   pub linear_lone : T (lone_s linear)
   pub linear_without : T (without_b linear)
   pub nonlinear_lone : T (lone_b nonlinear)
+
+-- the registers that a pair of numbers holds, at a shape's length
+abbrev pub held_by : Shape → Pair → Registers
+held_by shape pair = held_in shape.size pair
+
+-- one clock by a shape's feedbacks
+abbrev pub next_by : Shape → Registers → Registers
+next_by shape = clock shape.linear shape.nonlinear
+
+-- one clock of the initialisation: the output is added to both new bits
+abbrev pub initial_by : Shape → Registers → Registers
+initial_by shape = clock (shape.linear ⊕ shape.output) (shape.nonlinear ⊕ shape.output)
+
+-- a shape's output bit
+abbrev pub output_by : Shape → Registers → Bool
+output_by shape t = value_at t shape.output

@@ -1,3 +1,5 @@
+// Macros and not methods: written out, a tap computes to its definition, so that no feedback needs a proof of its own.
+
 /// The bits of a register from an index up to 32 on.
 #[macro_export]
 macro_rules! low {

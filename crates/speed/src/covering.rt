@@ -4,10 +4,7 @@ ghost use Rattle.stream.specs.Ciphers.{load_refusal};
 ghost use Rattle.speed.specs.Answers.{told, Covers};
 ghost use Rattle.speed.specs.Numbered.{cipher_of};
 
-use grain128::parallel128::Grain128x32;
-use grain128::parallel128a::Grain128ax32;
-use grain128::serial128::Grain128;
-use grain128::serial128a::Grain128a;
+use grain128::engines::{Grain128, Grain128a, Grain128ax32, Grain128x32};
 use sprout::engine::Sprout;
 use stream::draws::cover;
 use stream::engine::Engine;

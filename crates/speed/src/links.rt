@@ -1,7 +1,7 @@
 //! A session sent, and frames received, by Grain-128 at stride 32.
 ghost use Rattle.std.specs.Prelude.{◌≤◌, length};
 
-use grain128::parallel128::Grain128x32;
+use grain128::engines::Grain128x32;
 use marks::store::MarkStore;
 use receiver::Receiver;
 use sender::resting::Resting;

@@ -1,8 +1,9 @@
 -- The registers that an IV fills.
-use Rattle.std.proofs.Common.{◌≡◌, ℕ, ◌+◌, ◌*◌, ◌/◌, ◌%◌, ◌^◌, ◌<◌, ◌≤◌, Bool, true, false, List, [], ◌∷◌, ◌++◌, length, get_or, take, drop, replicate, sym, ap, ◌∙◌, ap₂, mod-lt, div-one, arith, length-append, length-drop, length-take, get_or-drop, take_all, get_or-take, ext_get_or, pow_pos}
+use Rattle.std.proofs.Common.{◌≡◌, ℕ, ◌+◌, ◌*◌, ◌/◌, ◌%◌, ◌^◌, ◌<◌, ◌≤◌, Bool, true, false, List, [], ◌∷◌, ◌++◌, length, get_or, take, drop, replicate, sym, ap, ◌∙◌, mod-lt, div-one, arith, length-append, length-drop, length-take, get_or-drop, get_or-take, ext_get_or, pow_pos}
 use lib.Bits.{bit_and, bit_or, and_mask, or_shifted_r}
 use Rattle.stream.specs.Bits.{bit, bits, packed, octet_bits}
 use Rattle.stream.proofs.Packed.{length-bits, length-octet_bits, packed-append, packed-bits, bits-packed}
+use Rattle.registers.proofs.Filling.{bits-by_number}
 use Rattle.registers.proofs.Back.{bits_at}
 use Rattle.registers.proofs.Bit.{bit_shr}
 
@@ -18,13 +19,6 @@ part_bits xs k m h =
     (λ i below. let inside : i < m = omega arith in
     bits_at m (packed xs / 2 ^ k) i inside ∙ bit_shr (packed xs) k i ∙ bit-packed xs (k + i) (omega arith)
     ∙ sym (get_or-take m (drop k xs) i false inside ∙ get_or-drop k xs i false))
-
--- a number that is packed from octets, all of which are read
-pub whole-number : (xs : List ℕ) (n : ℕ) → length xs ≤ 16 → n ≡ packed (octet_bits (take 16 xs)) → n ≡ packed (octet_bits xs)
-whole-number xs n h e = e ∙ ap (λ l. packed (octet_bits l)) (take_all 16 xs h)
-
-pub key-bits : (key : List ℕ) (n : ℕ) → length key ≡ 10 → n ≡ packed (octet_bits key) → bits 80 n ≡ octet_bits key
-key-bits key n size n-is = ap₂ bits (omega (arith, length-octet_bits key)) n-is ∙ bits-packed (octet_bits key)
 
 pub nonlinear-bits : (iv : List ℕ) (n : ℕ) → length iv ≡ 9 → n ≡ packed (octet_bits iv) → bits 40 n ≡ take 40 (octet_bits iv)
 nonlinear-bits iv n size n-is =
@@ -44,4 +38,4 @@ linear-bits iv n size n-is =
     let number : bit_or (bit_and (n / 2 ^ 40) 0x3fff_ffff) (0x1ff * 2 ^ 30) ≡ packed (front ++ rest) =
     ap (λ m. bit_or m (0x1ff * 2 ^ 30)) (and_mask (n / 2 ^ 40) 30) ∙ or_shifted_r 0x1ff 30 (n / 2 ^ 40 % 2 ^ 30) low
     ∙ sym (packed-append front rest ∙ omega (arith, front-is, ap (λ k. 2 ^ k * packed rest) front-size)) in
-    ap₂ bits (sym (omega (arith, length-append front rest))) number ∙ bits-packed (front ++ rest)
+    bits-by_number 40 _ (front ++ rest) (omega (arith, length-append front rest)) number

@@ -6,7 +6,7 @@ use Rattle.stream.specs.Ciphers.{Cipher, Bounds}
 use Rattle.stream.specs.declared.figures.Figures.{Figures}
 use Rattle.registers.specs.Polynomials.{Poly, S, B, fixed, ◌⊕◌, ◌⊗◌, within, lone_b}
 use Rattle.registers.specs.Registers.{Registers, Shape, clock, held_in, value_at}
-use Rattle.registers.specs.declared.pair.Pair.{Pair}
+use Rattle.sprout.specs.declared.engine.Sprout.{Sprout}
 
 -- the new bit of the linear register
 abbrev pub linear : Poly
@@ -144,5 +144,5 @@ shape early key-bit counter-bit = record {
 }
 
 -- the state that an engine's numbers stand for
-abbrev pub state_of : Pair → ℕ → ℕ → SproutState
-state_of pair key counter = record { registers = held_in 40 pair; key = bits 80 key; counter = counter }
+abbrev pub state_of : Sprout → SproutState
+state_of engine = record { registers = held_in 40 engine.pair; key = bits 80 engine.key; counter = engine.counter }

@@ -1,15 +1,13 @@
 //! The engine.
-ghost use Rattle.std.specs.Prelude.{◌≡◌, ◌<◌, true, false, length, slice_index_or};
+ghost use Rattle.std.specs.Prelude.{◌≡◌, false, length, slice_index_or, refl};
 ghost use Rattle.stream.specs.Bits.{bit, bits, times};
-ghost use Rattle.sprout.specs.Sprout.{counted, initial, loaded, sprout, start, state_of};
+ghost use Rattle.sprout.specs.Sprout.{initial, loaded, sprout, state_of};
 
+use crate::counter::Counter;
 use crate::round::Round;
-use registers::clocks::{clocked, initialised, undone};
 use registers::octets::{bit_of, number_of};
 use registers::pair::Pair;
 use stream::engine::{Engine, Reversible};
-use stream::figures::Figures;
-use stream::loading::refusal_of;
 use stream::refusal::Refusal;
 
 /// Sprout, one bit to a draw.
@@ -17,42 +15,16 @@ use stream::refusal::Refusal;
 pub struct Sprout {
     pair: Pair,
     key: u128,
-    counter: u32,
-    ghost counts: { counter < 80 },
-}
-
-/// The counter one clock later.
-fn counted_on(counter: u32) -> u32
-    requires { counter < 80 }
-    ensures { (result ≡ counted counter) × (result < 80) }
-{
-    if counter == 79 { 0 } else { counter + 1 }
-}
-
-/// The counter one clock before.
-fn counted_back(counter: u32) -> u32
-    requires { counter < 80 }
-    ensures { (counted result ≡ counter) × (result < 80) }
-{
-    if counter == 0 { 79 } else { counter - 1 }
-}
-
-/// The taps at a clock, by the key and the counter.
-fn round(key: u128, counter: u32, early: bool) -> Round
-    requires { counter < 80 }
-    ensures { (result.early ≡ early) × (result.key_bit ≡ slice_index_or (bits 80 key) counter false) × (result.counter_bit ≡ bit counter 4) }
-{
-    Round {
-        early,
-        key_bit: key >> counter & 1 == 1,
-        counter_bit: counter >> 4 & 1 == 1,
-    }
+    counter: Counter,
 }
 
 impl Sprout {
     /// An engine that has not been loaded: the registers and the key hold zeros, and the counter stands at 0.
     pub fn new() -> Self
-        ensures { (result.pair.linear ≡ 0) × (result.pair.nonlinear ≡ 0) × (result.key ≡ 0) × (result.counter ≡ 0) }
+        ensures linear { result.pair.linear ≡ 0 }
+        ensures nonlinear { result.pair.nonlinear ≡ 0 }
+        ensures key { result.key ≡ 0 }
+        ensures counter { result.counter ≡ 0 }
     {
         Sprout {
             pair: Pair {
@@ -60,24 +32,34 @@ impl Sprout {
                 nonlinear: 0,
             },
             key: 0,
-            counter: 0,
+            counter: Counter::new(),
+        }
+    }
+
+    /// The taps at the next clock, by the key and the counter.
+    fn round(&self, early: bool) -> Round
+        ensures early { result.early ≡ early }
+        ensures key_bit { result.key_bit ≡ slice_index_or (bits 80 self.now.key) self.now.counter false }
+        ensures counter_bit { result.counter_bit ≡ bit self.now.counter 4 }
+    {
+        Round {
+            early,
+            key_bit: self.counter.bit_of(self.key),
+            counter_bit: self.counter.bit_4(),
         }
     }
 
     /// One clock of the initialisation.
     fn initialise_once(&mut self, early: bool)
-        ensures { state_of self.new.pair self.new.key self.new.counter
-            ≡ initial early (state_of self.old.pair self.old.key self.old.counter) }
+        ensures { state_of self.new ≡ initial early (state_of self.old) }
     {
-        let taps = round(self.key, self.counter, early);
-        self.pair = initialised(taps, self.pair, 1);
-        self.counter = counted_on(self.counter);
+        self.pair = self.pair.initialised(self.round(early), 1);
+        self.counter = self.counter.next();
     }
 
     /// So many clocks of the initialisation.
     fn initialise(&mut self, early: bool, clocks: u32)
-        ensures { state_of self.new.pair self.new.key self.new.counter
-            ≡ times clocks (initial early) (state_of self.old.pair self.old.key self.old.counter) }
+        ensures { state_of self.new ≡ times clocks (initial early) (state_of self.old) }
     {
         for _ in 0..clocks {
             self.initialise_once(early);
@@ -87,8 +69,9 @@ impl Sprout {
 
 /// The engine before initialisation.
 fn filled(key: &[u8], iv: &[u8]) -> Sprout
-    requires { (length key.now ≡ 10) × (length iv.now ≡ 9) }
-    ensures { state_of result.pair result.key result.counter ≡ loaded key.now iv.now }
+    requires key { length key.now ≡ 10 }
+    requires iv { length iv.now ≡ 9 }
+    ensures { state_of result ≡ loaded key.now iv.now }
 {
     let number = number_of(iv);
     Sprout {
@@ -97,14 +80,26 @@ fn filled(key: &[u8], iv: &[u8]) -> Sprout
             nonlinear: number,
         },
         key: number_of(key),
-        counter: 0,
+        counter: Counter::new(),
     }
 }
 
 impl Engine for Sprout {
     ghost cipher = { sprout };
 
-    ghost state = { λ e. state_of e.pair e.key e.counter };
+    ghost state = { state_of };
+
+    ghost KEY_OCTETS = { 10 };
+
+    ghost IV_OCTETS = { 9 };
+
+    ghost LABEL_OCTETS = { 5 };
+
+    ghost STRIDE = { 1 };
+
+    ghost CEILING = { 131072 };
+
+    ghost constants = { refl };
 
     const KEY_OCTETS: usize = 10;
 
@@ -116,55 +111,36 @@ impl Engine for Sprout {
 
     const CEILING: u32 = 131_072;
 
-    fn figures() -> Figures {
-        Figures {
-            key: Self::KEY_OCTETS,
-            iv: Self::IV_OCTETS,
-            label: Self::LABEL_OCTETS,
-            stride: Self::STRIDE,
-            ceiling: Self::CEILING,
-        }
-    }
-
-    fn refusal(key: &[u8], iv: &[u8]) -> Option<Refusal> {
-        refusal_of(Self::figures(), key, iv, bit_of(iv, 70) || bit_of(iv, 71))
+    fn check(key: &[u8], iv: &[u8]) -> Result<(), Refusal> {
+        Self::figures().check_load(key, iv, bit_of(iv, 70) || bit_of(iv, 71))
     }
 
     fn load(&mut self, key: &[u8], iv: &[u8]) -> Result<(), Refusal> {
-        match Self::refusal(key, iv) {
-            Some(refusal) => Err(refusal),
-            None => {
-                let mut loading = filled(key, iv);
-                loading.initialise(true, 80);
-                loading.initialise(false, 240);
-                *self = loading;
-                Ok(())
-            }
-        }
+        Self::check(key, iv)?;
+        let mut loading = filled(key, iv);
+        loading.initialise(true, 80);
+        loading.initialise(false, 240);
+        *self = loading;
+        Ok(())
     }
 
     fn draw(&mut self, n: u32) -> (u32, u32) {
         if n == 0 {
             return (0, 0);
         }
-        let taps = round(self.key, self.counter, false);
-        let drawn = clocked(taps, self.pair, 1, Self::STRIDE);
+        let drawn = self.pair.clocked(self.round(false), 1, Self::STRIDE);
         self.pair = drawn.pair;
-        self.counter = counted_on(self.counter);
+        self.counter = self.counter.next();
         (drawn.bits, drawn.count)
     }
 }
 
 impl Reversible for Sprout {
     fn back(&mut self)
-        ensures alone { (t : sprout.State) → sprout.next t ≡ state_of self.old.pair self.old.key self.old.counter
-            → state_of self.new.pair self.new.key self.new.counter ≡ t }
-        ensures found { sprout.next (state_of self.new.pair self.new.key self.new.counter)
-            ≡ state_of self.old.pair self.old.key self.old.counter }
+        ensures alone { (t : sprout.State) → sprout.next t ≡ state_of self.old → state_of self.new ≡ t }
+        ensures found { sprout.next (state_of self.new) ≡ state_of self.old }
     {
-        let counter = counted_back(self.counter);
-        let taps = round(self.key, counter, false);
-        self.pair = undone(taps, self.pair);
-        self.counter = counter;
+        self.counter = self.counter.previous();
+        self.pair = self.pair.undone(self.round(false));
     }
 }

@@ -4,10 +4,7 @@ ghost use Rattle.trial.specs.Performed.{Performed};
 
 use crate::memory::Memory;
 use column::store::Column;
-use grain128::parallel128::*;
-use grain128::parallel128a::*;
-use grain128::serial128::*;
-use grain128::serial128a::*;
+use grain128::engines::*;
 use runs::calls::{ReceiverStep, SenderStep};
 use runs::run::run;
 use sprout::engine::*;

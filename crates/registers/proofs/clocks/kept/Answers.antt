@@ -1,8 +1,5 @@
-use Rattle.registers.proofs.Masks.{masked, mask_whole}
+use Rattle.std.proofs.lemmas.Nat.{and_mask, one_shl}
 use Rattle.registers.proofs.clocks.kept.Goals as goal
 
-pub overflow_sub-result : goal.overflow_sub-result
-overflow_sub-result c = mask_whole c.args.size 128 c.if-size-lt128.true
-
 pub returns-then-size-lt128 : goal.returns-then-size-lt128
-returns-then-size-lt128 c = masked c.args.r c.args.size 128 c.if-size-lt128.true
+returns-then-size-lt128 c = rw (one_shl c.args.size 128 c.if-size-lt128.true) (and_mask c.args.r c.args.size)

@@ -1,18 +1,17 @@
 use Rattle.std.proofs.Common.{◌≡◌, arith}
 use Rattle.stream.specs.Bits.{octet_bits, packed}
 use Rattle.registers.specs.Registers.{held}
-use Rattle.sprout.proofs.Filling.{whole-number, key-bits, nonlinear-bits, linear-bits}
+use Rattle.registers.proofs.Filling.{number_whole, register_filled}
+use Rattle.sprout.proofs.Filling.{nonlinear-bits, linear-bits}
 use Rattle.sprout.proofs.engine.filled.Goals as goal
 
 pub returns : goal.returns
 unfolding held
 returns c =
     let iv = c.args.iv.now in
-    let key = c.args.key.now in
-    let n : c.number_of-number.result ≡ packed (octet_bits iv) = whole-number iv _ (omega arith) c.number_of-number.ensures in
-    let k : c.number_of.result ≡ packed (octet_bits key) = whole-number key _ (omega arith) c.number_of.ensures in
+    let n : c.number_of-number.result ≡ packed (octet_bits iv) = number_whole iv _ (omega arith) c.number_of-number.ensures in
     λ i. record {
       registers = record { linear = linear-bits iv _ (omega arith) n i; nonlinear = nonlinear-bits iv _ (omega arith) n i };
-      key = key-bits key _ (omega arith) k i;
-      counter = 0;
+      key = register_filled 80 c.args.key.now _ (omega arith) (omega arith) c.number_of.ensures i;
+      counter = c.new.ensures i;
     }

@@ -10,8 +10,7 @@ loop-init c = refl
 
 pub loop-preserved : goal.loop-preserved
 loop-preserved c =
-    let self = c.args.self.now in
-    let from : SproutState = state_of self.pair self.key self.counter in
+    let from : SproutState = state_of c.args.self.now in
     let next : SproutState → SproutState = initial c.args.early in
     let n = c.loop.counter in
     c.initialise_once.ensures ∙ ap next c.loop.invariant ∙ sym (times-suc n next from) ∙ ap (λ m. times m next from) (sym (add-one n))

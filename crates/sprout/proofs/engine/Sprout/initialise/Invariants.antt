@@ -5,6 +5,4 @@ use Rattle.sprout.proofs.engine.Sprout.initialise.Given as goal
 
 -- so many clocks so far
 abbrev pub invariant-loop : goal.invariant-loop
-invariant-loop l =
-    state_of l.self.pair l.self.key l.self.counter
-    ≡ times l.counter (initial l.early) (state_of l.initial.self.pair l.initial.self.key l.initial.self.counter)
+invariant-loop l = state_of l.self ≡ times l.counter (initial l.early) (state_of l.initial.self)

@@ -7,9 +7,9 @@ use Rattle.sprout.proofs.engine.Sprout.initialise_once.Goals as goal
 
 pub returns : goal.returns
 returns c =
-    let made = c.round-taps.ensures in
+    let made = c.round.ensures in
     let from : Registers = held_in 40 c.args.self.now.pair in
     parts_same _ _ _ _ _
     (once _ from _ c.initialised-self.ensures
-    ∙ ap (λ g. clock (linear ⊕ output) (g ⊕ output) from) (same-feedback _ _ _ _ _ _ made.0 made.1 made.2))
-    c.counted_on-self.ensures.0
+    ∙ ap (λ g. clock (linear ⊕ output) (g ⊕ output) from) (same-feedback _ _ _ _ _ _ made.early made.key_bit made.counter_bit))
+    c.next-self.ensures

@@ -12,10 +12,9 @@ returns-then-n-eq0 c =
 
 pub returns : goal.returns
 returns c =
-    let self = c.args.self.now in
-    let from : SproutState = state_of self.pair self.key self.counter in
+    let from : SproutState = state_of c.args.self.now in
     let one : min c.args.n 1 ≡ 1 = omega arith in
-    let made = c.round-taps.ensures in
+    let made = c.round.ensures in
     record {
       count = omega (arith, c.clocked-drawn.ensures.count);
       drawn = one_drawn from _ _ _ one c.clocked-drawn.ensures.drawn;
@@ -23,6 +22,6 @@ returns c =
           one-moved from _ _ one
           (parts_same _ _ _ _ _
           (once _ from.registers _ c.clocked-drawn.ensures.moves
-          ∙ ap (λ g. clock linear g from.registers) (same-feedback _ _ _ _ _ _ made.0 made.1 made.2))
-          c.counted_on-self.ensures.0);
+          ∙ ap (λ g. clock linear g from.registers) (same-feedback _ _ _ _ _ _ made.early made.key_bit made.counter_bit))
+          c.next-self.ensures);
     }

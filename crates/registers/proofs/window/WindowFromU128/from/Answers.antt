@@ -2,7 +2,7 @@ use Rattle.std.proofs.Common.{◌/◌, ◌^◌, ◌<◌, sym, arith}
 use lib.Bits.{and_mask}
 use lib.Pow.{shr_mod}
 use Rattle.registers.specs.Words.{window_of}
-use Rattle.registers.proofs.clocks.window.Goals as goal
+use Rattle.registers.proofs.window.WindowFromU128.from.Goals as goal
 
 pub returns : goal.returns
 unfolding window_of

@@ -2,7 +2,7 @@ use Rattle.std.proofs.Common.{◌≡◌}
 use Rattle.stream.specs.Bits.{times}
 use Rattle.registers.specs.Polynomials.{◌⊕◌}
 use Rattle.registers.specs.Registers.{Registers, clock, held}
-use Rattle.registers.proofs.clocks.initialised.Given as goal
+use Rattle.registers.proofs.pair.Pair.initialised.Given as goal
 
 -- what is left to do leads from the registers reached to those wanted
 abbrev pub invariant-loop-left : goal.invariant-loop-left

@@ -4,7 +4,7 @@ use Rattle.stream.proofs.Packed.{times-add}
 use Rattle.registers.specs.Polynomials.{◌⊕◌}
 use Rattle.registers.specs.Registers.{Registers, Shape, clock, held}
 use Rattle.registers.proofs.Strides.{none_moved}
-use Rattle.registers.proofs.clocks.initialised.Goals as goal
+use Rattle.registers.proofs.pair.Pair.initialised.Goals as goal
 
 pub loop-left-preserved : goal.loop-left-preserved
 loop-left-preserved g c =
