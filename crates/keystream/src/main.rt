@@ -7,7 +7,7 @@ use anyhow::anyhow;
 use keystreams::replies::{Reply, reply_to};
 use std::process::ExitCode;
 use std::{env, io};
-use workshop::words::split_words;
+use texts::words::split_words;
 
 // The words of the command line, or where it has none those of the standard input.
 fn given_words(rt: &HostRuntime) -> anyhow::Result<Vec<String>> {

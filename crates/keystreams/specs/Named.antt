@@ -3,8 +3,8 @@ use Rattle.stream.specs.Ciphers.{Cipher}
 use Rattle.grain128.specs.Grain128.{grain128, grain128x32}
 use Rattle.grain128.specs.Grain128a.{grain128a, grain128ax32}
 use Rattle.sprout.specs.Sprout.{sprout}
-use Rattle.workshop.specs.declared.field.CipherName.{CipherName}
-use Rattle.workshop.specs.declared.field.CipherName.TheVariants.{Grain128, Grain128Wide, Grain128a, Grain128aWide, Sprout}
+use Rattle.texts.specs.declared.names.CipherName.{CipherName}
+use Rattle.texts.specs.declared.names.CipherName.TheVariants.{Grain128, Grain128Wide, Grain128a, Grain128aWide, Sprout}
 
 abbrev pub cipher_of : CipherName → Cipher
 cipher_of Grain128 = grain128

@@ -4,8 +4,8 @@ use Rattle.stream.specs.Refusals.{number}
 use Rattle.stream.specs.declared.figures.Figures.{Figures}
 use Rattle.stream.specs.declared.refusal.Refusal.{Refusal}
 use Rattle.stream.specs.declared.refusal.Refusal.TheVariants.{KeyLength, LabelLength, ForbiddenBit, BadAllowance, PlainLength, BadFrame, ShortBuffer, NoRaiseLeft, AboveAllowance, NeverPaired}
-use Rattle.workshop.specs.Dump.{hex_digits, dump_text}
-use Rattle.workshop.specs.Fields.{cipher_word}
+use Rattle.texts.specs.Dump.{hex_digits, dump_text}
+use Rattle.texts.specs.Names.{cipher_word}
 use Rattle.workshop.specs.declared.request.Nonce.{Nonce}
 use Rattle.workshop.specs.declared.request.Nonce.TheVariants.{Iv, Session}
 use Rattle.workshop.specs.declared.request.Request.{Request}

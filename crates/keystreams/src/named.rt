@@ -11,7 +11,7 @@ use sprout::engine::Sprout;
 use std::alloc::Global;
 use stream::engine::Engine;
 use stream::figures::Figures;
-use workshop::field::CipherName;
+use texts::names::CipherName;
 use workshop::request::Request;
 
 // The figures of the cipher of this name.

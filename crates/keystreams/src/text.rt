@@ -1,6 +1,6 @@
 //! The answer to a request as text, and the line that is printed where there is none.
 ghost use Rattle.std.specs.Prelude.{◌≡◌, IfOk, string_bytes};
-ghost use Rattle.workshop.specs.Fields.{cipher_word};
+ghost use Rattle.texts.specs.Names.{cipher_word};
 ghost use Rattle.keystreams.specs.Texts.{covered_text, message_text, report_text, nonce_octets, field_refused, reason_text, refusal_text, fault_line};
 
 use crate::fault::Fault;
@@ -9,8 +9,8 @@ use crate::report::{Covered, Report};
 use std::alloc::{AllocError, Global};
 use stream::figures::Figures;
 use stream::refusal::Refusal;
-use workshop::dump::{hex_dump, hex_text};
-use workshop::field::CipherName;
+use texts::dump::{hex_dump, hex_text};
+use texts::names::CipherName;
 use workshop::request::{Nonce, Request};
 
 // The word by which a cipher is asked for.

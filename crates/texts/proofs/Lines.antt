@@ -1,23 +1,29 @@
 -- Text that is written piece by piece.
-use Rattle.std.proofs.Common.{◌≡◌, ℕ, ◌+◌, ◌-◌, ◌*◌, ◌/◌, ◌<◌, ◌≤◌, min, List, [], ◌∷◌, ◌++◌, length, get_or, take, drop, sym, ap, ◌∙◌, ⊎_elim, append_assoc, append-nil, arith}
+use Rattle.std.proofs.Common.{◌≡◌, ℕ, ◌+◌, ◌-◌, ◌*◌, ◌/◌, ◌^◌, ◌<◌, min, false, Some, option_map, List, [], ◌∷◌, ◌++◌, length, get_or, take, drop, refl, sym, ap, ◌∙◌, ⊎_elim, append-nil, arith}
+use Rattle.std.specs.Fmt.{HasWritten, IsPlainFormatter, digits_output, styled_digits_output, radix_digits, radix_prefix, shown_prefix, padded_integral, format_spec}
+use Rattle.std.proofs.lemmas.Fmt.{hex_byte}
+use Rattle.std.specs.declared.fmt.Formatter.{Formatter}
 use Rattle.std.specs.List.{range_with_len, flat_map}
 use Rattle.std.proofs.lemmas.List.FromFn.{map-range_with_len_more}
 use Rattle.std.proofs.lemmas.List.{take_more, take_all, take_at, drop_at, drop-drop, drop_all, length-drop, length-append, nil_from_length, flat_map_more, map-id}
 use Rattle.std.proofs.lemmas.Bool.{cases_lt}
-use Rattle.texts.specs.Dump.{dump_line, line_at, dump_text}
+use Rattle.texts.specs.Dump.{hex_pair, dump_line, line_at, dump_text}
 
--- one piece after another
-pub appended : (t a b u v : List ℕ) → u ≡ t ++ a → v ≡ u ++ b → v ≡ t ++ (a ++ b)
-appended t a b u v p q = q ∙ ap (λ r. r ++ b) p ∙ append_assoc t a b
+-- nothing was written
+pub written_none : {W : Type 0} (took : W → List ℕ → W → Type 0) (f : Formatter W) → IsPlainFormatter f → HasWritten took f [] f
+written_none took f plain = record { wrote = record { parts = []; calls = refl; whole = refl }; plain = plain }
 
--- one more element's piece
-pub joined_step : (f : ℕ → List ℕ) (bs t u xs : List ℕ) (i : ℕ) → i < length xs → t ≡ bs ++ flat_map f (take i xs) → u ≡ t ++ f (get_or xs i 0) → u ≡ bs ++ flat_map f (take (i + 1) xs)
-joined_step f bs t u xs i l e p =
-    p ∙ ap (λ r. r ++ f (get_or xs i 0)) e ∙ flat_map_more f bs (take i xs) (get_or xs i 0) ∙ ap (λ r. bs ++ flat_map f r) (sym (take_more xs i 0 l))
+-- what a hole `{:02x}` writes of an octet
+pub octet_written : (n : ℕ) (d : _) (s : _) → n < 256 → digits_output d ≡ Some (radix_digits 16 false n) → s ≡ format_spec 32 0 4 2 (2 ^ 64 - 1) → styled_digits_output d s ≡ Some (hex_pair n)
+octet_written n d s fits out spec =
+    ap (option_map (padded_integral s false (shown_prefix s (radix_prefix d.base)))) out
+    ∙ ap (λ t. Some (padded_integral t false (shown_prefix t (radix_prefix d.base)) (radix_digits 16 false n))) spec
+    ∙ ap Some (hex_byte false n fits)
 
--- every element's piece
-pub joined_end : (f : ℕ → List ℕ) (bs t xs : List ℕ) (i : ℕ) → length xs ≤ i → t ≡ bs ++ flat_map f (take i xs) → t ≡ bs ++ flat_map f xs
-joined_end f bs t xs i l e = e ∙ ap (λ r. bs ++ flat_map f r) (take_all i xs l)
+-- a piece for each of the first elements, and that of the next
+pub piece_more : (f : ℕ → List ℕ) (xs piece : List ℕ) (i : ℕ) → i < length xs → piece ≡ f (get_or xs i 0) → flat_map f (take i xs) ++ piece ≡ flat_map f (take (i + 1) xs)
+piece_more f xs piece i l e =
+    ap (λ p. flat_map f (take i xs) ++ p) e ∙ flat_map_more f [] (take i xs) (get_or xs i 0) ∙ ap (flat_map f) (sym (take_more xs i 0 l))
 
 counting_more : (k : ℕ) → range_with_len 0 (k + 1) ≡ range_with_len 0 k ++ k ∷ []
 counting_more k = sym (map-id _) ∙ map-range_with_len_more (λ i. i) 0 k k (omega arith) ∙ ap (λ l. l ++ k ∷ []) (map-id _)
@@ -40,6 +46,10 @@ pub record Dumped (start : ℕ) (xs text rest : List ℕ) (offset : ℕ) : Type 
   pub left : rest ≡ drop (16 * lines) xs
   pub next : offset ≡ min (start + 16 * lines) 0xffff_ffff
   pub few : 16 * lines < length xs + 16
+
+-- no line
+pub dumped_none : (start : ℕ) (xs rest : List ℕ) → start < 2 ^ 32 → rest ≡ xs → Dumped start xs [] rest start
+dumped_none start xs rest fits all = record { lines = 0; written = refl; left = all; next = omega arith; few = omega arith }
 
 -- one more line
 pub dumped_more : (start : ℕ) (xs text rest row after more : List ℕ) (offset : ℕ) → Dumped start xs text rest offset → 0 < length rest → rest ≡ row ++ after → length row ≡ min 16 (length rest) → more ≡ text ++ dump_line offset row → Dumped start xs more after (min (offset + 16) 0xffff_ffff)

@@ -1,27 +1,48 @@
 -- Hexadecimal digits pair by pair.
-use Rattle.std.proofs.Common.{◌≡◌, ℕ, zero, suc, ◌+◌, ◌*◌, ◌/◌, ◌%◌, ◌<◌, List, [], ◌∷◌, length, get_or, drop, refl, ap, ◌∙◌, arith, below_more}
+use Rattle.std.proofs.Common.{◌≡◌, ℕ, zero, suc, ◌+◌, ◌*◌, ◌/◌, ◌%◌, ◌<◌, List, [], ◌∷◌, ◌++◌, length, get_or, sym, refl, ◌∙◌, subst, append_assoc, append-nil, arith, length-append}
 use Rattle.std.specs.Char.{digit_value}
 use Rattle.std.specs.List.{AllByRecursion as All}
-use Rattle.std.proofs.lemmas.List.{at_drop_more}
+use Rattle.std.proofs.lemmas.List.{get_or_append_left}
 use Rattle.std.proofs.lemmas.Str.{digit_value-digit_char}
 use Rattle.texts.specs.Dump.{hex_digits}
 use Rattle.texts.specs.Hex.{Hex, HexOf, unhex}
 
--- one more good digit
-pub hex_more : (n : ℕ) (bs : List ℕ) → Hex n bs → digit_value (get_or bs n 0) < 16 → Hex (n + 1) bs
-hex_more n bs h d = below_more _ _ h d
+-- what is left of the digits where the pairs before it are read, as octets: good digits, in pairs
+pub record Left (digits octets rest : List ℕ) : Type 0 where
+  pub good : Hex (length rest) rest
+  pub even : length rest % 2 ≡ 0
+  pub joined : octets ++ unhex rest ≡ unhex digits
 
--- two more good digits
-pub hex_two : (i : ℕ) (bs : List ℕ) → Hex (2 * i) bs → digit_value (get_or bs (2 * i) 0) < 16 → digit_value (get_or bs (2 * i + 1) 0) < 16 → Hex (2 * (i + 1)) bs
-hex_two i bs h d e k l = hex_more (2 * i + 1) bs (hex_more (2 * i) bs h d) e k (omega arith)
+-- no pair is read
+pub left_all : (digits octets rest : List ℕ) → octets ≡ [] → rest ≡ digits → Hex (length digits) digits → length digits % 2 ≡ 0 → Left digits octets rest
+left_all digits octets rest none all good even = rw (none, all) (record { good = good; even = even; joined = refl })
 
--- a pair of digits is an octet
-pub unhex-two : (i : ℕ) (bs : List ℕ) → 2 * i + 1 < length bs → unhex (drop (2 * i) bs) ≡ (16 * digit_value (get_or bs (2 * i) 0) + digit_value (get_or bs (2 * i + 1) 0)) ∷ unhex (drop (2 * (i + 1)) bs)
-unhex-two i bs l =
-    let next : 2 * i + 1 + 1 ≡ 2 * (i + 1) = omega arith in
-    at_drop_more unhex bs (2 * i) 0 (omega arith)
-    ∙ at_drop_more (λ r. unhex (get_or bs (2 * i) 0 ∷ r)) bs (2 * i + 1) 0 l
-    ∙ ap (λ n. (16 * digit_value (get_or bs (2 * i) 0) + digit_value (get_or bs (2 * i + 1) 0)) ∷ unhex (drop n bs)) next
+module _ (digits octets rest pair after : List ℕ) (left : Left digits octets rest) (split : rest ≡ pair ++ after) (two : length pair ≡ 2) where
+  -- the digits of the next pair are good
+  pub pair_good : (i : ℕ) → i < 2 → digit_value (get_or pair i 0) < 16
+  pair_good i h =
+      let whole = subst (λ r. Hex (length r) r) split left.good in
+      let inside : i < length (pair ++ after) = omega (arith, length-append pair after) in
+      subst (λ b. digit_value b < 16) (get_or_append_left pair after 0 i (omega arith)) (whole i inside)
+
+-- one more pair
+pub left_more : (digits octets rest pair after : List ℕ) → Left digits octets rest → rest ≡ pair ++ after → length pair ≡ 2 → Left digits (octets ++ (16 * digit_value (get_or pair 0 0) + digit_value (get_or pair 1 0)) ∷ []) after
+left_more digits octets rest [] after left split two = absurd (omega arith)
+left_more digits octets rest (h ∷ []) after left split two = absurd (omega arith)
+left_more digits octets rest (h ∷ l ∷ x ∷ xs) after left split two = absurd (omega arith)
+left_more digits octets rest (h ∷ l ∷ []) after left split two =
+    let here : Left digits octets (h ∷ l ∷ after) = subst (Left digits octets) split left in
+    record {
+      good = λ i k. here.good (suc (suc i)) (omega arith);
+      even = omega (arith, here.even);
+      joined = append_assoc octets _ (unhex after) ∙ here.joined;
+    }
+
+-- every pair
+pub left_none : (digits octets rest : List ℕ) → Left digits octets rest → length rest < 2 → octets ≡ unhex digits
+left_none digits octets [] left few = sym (append-nil octets) ∙ left.joined
+left_none digits octets (h ∷ []) left few = absurd (omega (arith, left.even))
+left_none digits octets (h ∷ l ∷ rest) left few = absurd (omega arith)
 
 hex_cons : (c : ℕ) (bs : List ℕ) (n : ℕ) → digit_value c < 16 → Hex n bs → Hex (suc n) (c ∷ bs)
 hex_cons c bs n d h zero l = d

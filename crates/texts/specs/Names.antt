@@ -1,5 +1,5 @@
 -- The names of ciphers, and decimal numbers of 32 bits.
-use Rattle.std.specs.Prelude.{◌≡◌, ℕ, ◌^◌, ◌<◌, List, length, codes}
+use Rattle.std.specs.Prelude.{◌≡◌, ℕ, ◌^◌, ◌<◌, List, length, codes, Result, MatchResult, ◌≢◌}
 use Rattle.std.specs.Str.Parse.{AllDigits, digits_value}
 use Rattle.texts.specs.declared.names.CipherName.{CipherName}
 use Rattle.texts.specs.declared.names.CipherName.TheVariants.{Grain128, Grain128Wide, Grain128a, Grain128aWide, Sprout}
@@ -11,6 +11,10 @@ cipher_word Grain128Wide = codes "grain128x32"
 cipher_word Grain128a = codes "grain128a"
 cipher_word Grain128aWide = codes "grain128ax32"
 cipher_word Sprout = codes "sprout"
+
+-- what a word gives that is read as a cipher's name: the cipher that has that word, or an error where none has it
+abbrev pub NamesCipher : {E : Type 0} → List ℕ → Result CipherName E → Type 0
+NamesCipher w r = MatchResult r (λ c. w ≡ cipher_word c) (λ _. (c : CipherName) → w ≢ cipher_word c)
 
 -- the text is one or more decimal digits and writes n, which fits 32 bits
 pub record DecimalOf (bs : List ℕ) (n : ℕ) : Type 0 where

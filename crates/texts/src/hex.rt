@@ -1,5 +1,5 @@
 //! Octets read from hexadecimal digits.
-ghost use Rattle.std.specs.Prelude.{◌≡◌, ◌<◌, ◌≤◌, length, Some, MatchOption, MatchResult, slice_index};
+ghost use Rattle.std.specs.Prelude.{◌≡◌, ◌%◌, ◌<◌, length, Some, MatchResult};
 ghost use Rattle.std.specs.Char.{digit_value};
 ghost use Rattle.texts.specs.Hex.{Hex, HexOf, HexRefused, hex_fault_text};
 ghost use Rattle.texts.specs.declared.hex.HexFault.TheVariants.{NoMemory};
@@ -51,44 +51,27 @@ impl fmt::Display for HexFault {
 }
 
 // The value of a hexadecimal digit, in either case.
-fn digit_value(digit: u8) -> Option<u8>
-    ensures { MatchOption result (16 ≤ digit_value digit) (λ v. (v ≡ digit_value digit) × (v < 16)) }
+fn digit_value(digit: u8) -> u8
+    requires { digit_value digit < 16 }
+    ensures { result ≡ digit_value digit }
 {
-    match digit {
-        b'0'..=b'9' => Some(digit - b'0'),
-        b'a'..=b'f' => Some(digit - b'a' + 10),
-        b'A'..=b'F' => Some(digit - b'A' + 10),
-        _ => None,
-    }
+    char::from(digit).to_digit(16).unwrap() as u8
 }
 
-// The value of the digit at an index, which is refused as the first bad digit if those before it are good.
-fn digit_at(digits: &[u8], index: usize) -> Result<u8, HexFault>
-    requires { index < length digits.now }
+// Refuses the first byte that is no hexadecimal digit, else an odd count of them.
+fn check_digits(digits: &[u8]) -> Result<(), HexFault>
     ensures { MatchResult result
-        (λ v. (v ≡ digit_value (slice_index digits.now index)) × (v < 16))
-        (λ e. Hex index digits.now → HexRefused digits.now e) }
+        (λ _. Hex (length digits.now) digits.now × (length digits.now % 2 ≡ 0))
+        (HexRefused digits.now) }
 {
-    match digit_value(digits[index]) {
-        Some(value) => Ok(value),
-        None => Err(HexFault::BadDigit(index)),
+    match digits
+        .iter()
+        .position(|&digit| !char::from(digit).is_digit(16))
+    {
+        Some(index) => Err(HexFault::BadDigit(index)),
+        None if digits.len() % 2 == 1 => Err(HexFault::OddCount),
+        None => Ok(()),
     }
-}
-
-fn read_digits(heap: Global, digits: &[u8]) -> Result<Vec<u8>, HexFault>
-    ensures { MatchResult result (λ v. HexOf digits.now v.items) (HexRefused digits.now) }
-{
-    let mut octets = Vec::new(heap);
-    for i in 0..digits.len() / 2 {
-        let high = digit_at(digits, 2 * i)?;
-        let low = digit_at(digits, 2 * i + 1)?;
-        octets.push(16 * high + low)?;
-    }
-    if digits.len() % 2 == 1 {
-        digit_at(digits, digits.len() - 1)?;
-        return Err(HexFault::OddCount);
-    }
-    Ok(octets)
 }
 
 /// The octets that a text of hexadecimal digits writes, two digits to an octet, in either case; none for an empty text.
@@ -98,5 +81,13 @@ fn read_digits(heap: Global, digits: &[u8]) -> Result<Vec<u8>, HexFault>
 pub fn hex_octets(heap: Global, text: &str) -> Result<Vec<u8>, HexFault>
     ensures { MatchResult result (λ v. HexOf text.now v.items) (HexRefused text.now) }
 {
-    read_digits(heap, text.as_bytes())
+    let digits = text.as_bytes();
+    check_digits(digits)?;
+    let mut octets = Vec::new(heap);
+    for pair in digits.chunks_exact(2) {
+        let high = digit_value(pair[0]);
+        let low = digit_value(pair[1]);
+        octets.push(16 * high + low)?;
+    }
+    Ok(octets)
 }

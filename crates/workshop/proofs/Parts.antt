@@ -1,10 +1,8 @@
--- Words taken apart, and numbers read.
-use Rattle.std.proofs.Common.{◌≡◌, ℕ, ◌^◌, ◌<◌, List, ◌∷◌, ◌++◌, get_or, is_some, Some, None, Ok, Err, MatchBool, Option, Result, String, sym, ap, ◌∙◌, subst, Bor, MatchOption}
-use Rattle.std.specs.Str.Parse.{ParsesUnsigned}
-use Rattle.std.specs.Result.{result_ok}
+-- Words taken apart.
+use Rattle.std.proofs.Common.{Ok, Err, IsErrAnd, Result, MatchResult, subst, ◌≡◌, ℕ, List, ◌∷◌, ◌++◌, is_some, Some, None, MatchBool, Option, String, sym, ap, ◌∙◌, Bor, MatchOption}
 use Rattle.std.proofs.lemmas.List.{append_cancel_left}
-use Rattle.std.proofs.lemmas.Str.Parse.{numerals_by_value, tells_digits, parse_plain}
-use Rattle.workshop.specs.Fields.{DecimalOf, Given, IsGiven, NotGiven}
+use Rattle.std.specs.Option.{ok_or}
+use Rattle.workshop.specs.Fields.{Given, IsGiven, NotGiven}
 use Rattle.workshop.specs.declared.field.Field.{Field}
 
 -- what stands after a name is '=' and the value
@@ -12,15 +10,23 @@ pub value_after : (w name rest : List ℕ) (o : Option (Bor (List ℕ))) → w �
 value_after w name rest None whole h = λ v e. h v (append_cancel_left _ _ _ (sym whole ∙ e))
 value_after w name rest (Some x) whole h = whole ∙ ap (λ r. name ++ r) h
 
--- what `parse` answers at a text with no sign
-pub decimal_read : {E : Type 0} (bs : List ℕ) (r : Result ℕ E) → ParsesUnsigned 32 10 bs r → (get_or bs 0 0 ≡ 43 → ⊥) → MatchOption (result_ok r) ((n : ℕ) → DecimalOf bs n → ⊥) (DecimalOf bs)
-decimal_read {E} bs (Ok n) h plain =
-    let p = parse_plain (numerals_by_value _ tells_digits) {E = E} 32 bs (Ok n) h plain in
-    record { some = p.0.1; all_digits = p.0.0; reads = p.1; fits = subst (λ m. m < 2 ^ 32) (sym p.1) p.0.2 }
-decimal_read {E} bs (Err e) h plain = λ n d.
-    parse_plain (numerals_by_value _ tells_digits) {E = E} 32 bs (Err e) h plain (d.all_digits, d.some, subst (λ m. m < 2 ^ 32) d.reads d.fits)
-
 -- what `value_of` found, by the test whether it found a value
 pub given_by_test : {Y : Type 0} (ws : List (String Y)) (f : Field) (o : Option (Bor (List ℕ))) → MatchOption o (NotGiven ws f) (λ v. Given ws f v.now) → MatchBool (is_some o) (IsGiven ws f) (NotGiven ws f)
 given_by_test ws f None h = h
 given_by_test ws f (Some x) h = (x.now, h)
+
+-- what `ok_or` made an `Ok` of was there
+pub found : {X E : Type 0} (o : Option X) (e : E) (x : X) (P : Type 0) (Q : X → Type 0) → ok_or o e ≡ Ok x → MatchOption o P Q → Q x
+found None e x P Q was h = cc
+found (Some y) e x P Q was h = let same : y ≡ x = cc in subst Q same h
+
+-- what `ok_or` made an `Err` of was not there, and the error is the one that it was given
+pub lacking : {X E : Type 0} (o : Option X) (e f : E) (P : Type 0) (Q : X → Type 0) → ok_or o e ≡ Err f → MatchOption o P Q → (f ≡ e) × P
+lacking None e f P Q was h = let same : f ≡ e = cc in (same, h)
+lacking (Some y) e f P Q was h = cc
+
+-- what `map_err` left an `Ok` was one
+pub kept : {X E D : Type 0} (r : Result X E) (s : Result X D) (x : X) (P : X → Type 0) (Q : E → Type 0) (R : E → D → Type 0)
+    → MatchResult r (λ y. s ≡ Ok y) (λ e. IsErrAnd s (R e)) → s ≡ Ok x → MatchResult r P Q → P x
+kept (Ok y) s x P Q R h was p = let same : y ≡ x = cc in subst P same p
+kept (Err e) s x P Q R h was p = absurd (subst (λ t. IsErrAnd t (R e)) was h)

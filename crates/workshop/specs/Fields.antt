@@ -1,9 +1,6 @@
 -- The words of a request: a field's name, '=', and the value that the word gives the field.
-use Rattle.std.specs.Prelude.{◌≡◌, ℕ, ◌^◌, ◌<◌, List, ◌∷◌, ◌++◌, length, take, string_bytes, codes, String, ◌≢◌, slice_index}
-use Rattle.std.specs.Str.Parse.{AllDigits, digits_value}
+use Rattle.std.specs.Prelude.{◌≡◌, ℕ, ◌<◌, List, ◌∷◌, ◌++◌, length, take, string_bytes, codes, String, Result, MatchResult, ◌≢◌, slice_index}
 use Rattle.std.specs.List.{HoldsAt, AllWithin}
-use Rattle.workshop.specs.declared.field.CipherName.{CipherName}
-use Rattle.workshop.specs.declared.field.CipherName.TheVariants.{Grain128, Grain128Wide, Grain128a, Grain128aWide, Sprout}
 use Rattle.workshop.specs.declared.field.Field.{Field}
 use Rattle.workshop.specs.declared.field.Field.TheVariants.{Cipher, Key, Iv, Label, Session, First, Count, Message, Text}
 use Rattle.workshop.specs.declared.field.WordFault.{WordFault}
@@ -21,13 +18,9 @@ field_name Count = codes "count"
 field_name Message = codes "message"
 field_name Text = codes "text"
 
--- the word by which a cipher is asked for
-abbrev pub cipher_word : CipherName → List ℕ
-cipher_word Grain128 = codes "grain128"
-cipher_word Grain128Wide = codes "grain128x32"
-cipher_word Grain128a = codes "grain128a"
-cipher_word Grain128aWide = codes "grain128ax32"
-cipher_word Sprout = codes "sprout"
+-- what a name gives that is read as a field's: the field that has that name, or an error where none has it
+abbrev pub NamesField : List ℕ → Result Field WordFault → Type 0
+NamesField w r = MatchResult r (λ f. w ≡ field_name f) (λ e. (e ≡ UnknownField) × ((f : Field) → w ≢ field_name f))
 
 -- the text has no '='
 abbrev pub Plain : List ℕ → Type 0
@@ -41,13 +34,6 @@ Gives f v w = w ≡ field_name f ++ (61 ∷ v)
 abbrev pub WordRefused : List ℕ → WordFault → Type 0
 WordRefused w NoEquals = Plain w
 WordRefused w UnknownField = (name : List ℕ) × (v : List ℕ) × (w ≡ name ++ (61 ∷ v)) × Plain name × ((f : Field) → name ≢ field_name f)
-
--- the text is one or more decimal digits and writes n, which fits 32 bits
-pub record DecimalOf (bs : List ℕ) (n : ℕ) : Type 0 where
-  pub some : 0 < length bs
-  pub all_digits : AllDigits 10 bs
-  pub reads : n ≡ digits_value 10 bs
-  pub fits : n < 2 ^ 32
 
 module _ {Y : Type 0} where
   -- one of the words gives the field f the value v

@@ -1,22 +1,18 @@
 -- The line that is printed for a fault. It begins with the field that is at fault, or the place of the word.
 use Rattle.std.specs.Prelude.{ℕ, List, ◌++◌, codes, decimal}
+use Rattle.texts.specs.Hex.{hex_fault_text}
 use Rattle.workshop.specs.Fields.{field_name}
 use Rattle.workshop.specs.declared.fault.Fault.{Fault}
-use Rattle.workshop.specs.declared.fault.Fault.TheVariants.{BadWord, Twice, BadHex, BadNumber, UnknownCipher, Missing, NoNonce, TwoNonces, LabelAlone, SessionAlone, TwoMessages, NoMemory as OutOfMemory}
+use Rattle.workshop.specs.declared.fault.Fault.TheVariants.{BadWord, Twice, BadHex, BadNumber, UnknownCipher, Missing, NoNonce, TwoNonces, LabelAlone, SessionAlone, TwoMessages, NoMemory}
 use Rattle.workshop.specs.declared.field.WordFault.{WordFault}
 use Rattle.workshop.specs.declared.field.WordFault.TheVariants.{NoEquals, UnknownField}
-use Rattle.workshop.specs.declared.hex.HexFault.{HexFault}
-use Rattle.workshop.specs.declared.hex.HexFault.TheVariants.{BadDigit, OddCount, NoMemory}
 
-abbrev pub hex_fault_text : HexFault → List ℕ
-hex_fault_text (BadDigit i) = codes "no hexadecimal digit at byte " ++ (decimal i ++ codes " (counted from 0)")
-hex_fault_text OddCount = codes "an odd count of hexadecimal digits"
-hex_fault_text NoMemory = codes "no memory"
-
+-- what is printed for a word that gives no field
 abbrev pub word_fault_text : WordFault → List ℕ
 word_fault_text NoEquals = codes "no '='"
 word_fault_text UnknownField = codes "no such field"
 
+-- what is printed for a request that is refused
 abbrev pub fault_text : Fault → List ℕ
 fault_text (BadWord i e) = codes "word " ++ (decimal i ++ (codes " (counted from 0): " ++ word_fault_text e))
 fault_text (Twice f) = field_name f ++ codes ": given twice"
@@ -29,4 +25,4 @@ fault_text TwoNonces = codes "iv: given together with label or session"
 fault_text LabelAlone = codes "label: given without session"
 fault_text SessionAlone = codes "session: given without label"
 fault_text TwoMessages = codes "message: given together with text"
-fault_text OutOfMemory = codes "no memory"
+fault_text NoMemory = codes "no memory"

@@ -1,11 +1,12 @@
 -- What a request asks for, and why words are refused as a request.
 use Rattle.std.specs.Prelude.{◌≡◌, ℕ, ◌<◌, ◌⊎◌, List, length, take, Some, None, vec_items, string_bytes, Option, Vec, String, ◌≢◌}
 use Rattle.std.specs.List.{HoldsAt}
-use Rattle.workshop.specs.Fields.{cipher_word, Gives, WordRefused, DecimalOf, Given, IsGiven, NotGiven, Apart}
-use Rattle.workshop.specs.Hex.{HexOf, HexRefused}
+use Rattle.texts.specs.Hex.{HexOf, HexRefused}
+use Rattle.texts.specs.Names.{cipher_word, DecimalOf}
+use Rattle.texts.specs.declared.names.CipherName.{CipherName}
+use Rattle.workshop.specs.Fields.{Gives, WordRefused, Given, IsGiven, NotGiven, Apart}
 use Rattle.workshop.specs.declared.fault.Fault.{Fault}
 use Rattle.workshop.specs.declared.fault.Fault.TheVariants.{BadWord, Twice, BadHex, BadNumber, UnknownCipher, Missing, NoNonce, TwoNonces, LabelAlone, SessionAlone, TwoMessages, NoMemory}
-use Rattle.workshop.specs.declared.field.CipherName.{CipherName}
 use Rattle.workshop.specs.declared.field.Field.{Field}
 use Rattle.workshop.specs.declared.field.Field.TheVariants.{Cipher, Key, Iv, Label, Session, First, Count, Message, Text}
 use Rattle.workshop.specs.declared.request.Nonce.{Nonce}

@@ -1,13 +1,13 @@
 //! Why a request is refused, and the line that is printed for it.
 ghost use Rattle.std.specs.Prelude.{◌≡◌, Some};
-ghost use Rattle.workshop.specs.Fields.{field_name};
-ghost use Rattle.workshop.specs.Messages.{hex_fault_text, word_fault_text, fault_text};
-ghost use Rattle.workshop.specs.declared.fault.Fault.TheVariants.{NoMemory};
+ghost use Rattle.workshop.specs.Messages.{word_fault_text, fault_text};
+ghost use Rattle.workshop.specs.declared.fault.Fault.TheVariants.{UnknownCipher, NoMemory};
 
 use crate::field::{Field, WordFault};
-use crate::hex::HexFault;
 use std::alloc::AllocError;
 use std::fmt;
+use texts::hex::HexFault;
+use texts::names;
 
 /// What is wrong with a request.
 #[derive(Clone, Copy, PartialEq, Eq, Debug)]
@@ -46,32 +46,16 @@ impl From<AllocError> for Fault {
     }
 }
 
-/// A field is printed as its name.
-impl fmt::Display for Field {
-    ghost output = { λ x. Some (field_name x) };
+impl From<names::UnknownCipher> for Fault {
+    ghost from_gives = { λ _ r. r ≡ UnknownCipher };
 
-    fn fmt<W: fmt::Write>(&self, f: &mut fmt::Formatter<W>) -> fmt::Result {
-        f.write_str(self.name())
-    }
-}
-
-/// What is wrong with hexadecimal digits, in a few words.
-impl fmt::Display for HexFault {
-    ghost output = { λ x. Some (hex_fault_text x) };
-
-    fn fmt<W: fmt::Write>(&self, f: &mut fmt::Formatter<W>) -> fmt::Result {
-        match *self {
-            HexFault::BadDigit(index) => write!(
-                f,
-                "no hexadecimal digit at byte {index} (counted from 0)"
-            ),
-            HexFault::OddCount => f.write_str("an odd count of hexadecimal digits"),
-            HexFault::NoMemory => f.write_str("no memory"),
-        }
+    fn from(_e: names::UnknownCipher) -> Fault {
+        Fault::UnknownCipher
     }
 }
 
 /// What is wrong with a word, in a few words.
+// written by hand, as a derived one promises no text
 impl fmt::Display for WordFault {
     ghost output = { λ x. Some (word_fault_text x) };
 
@@ -84,6 +68,7 @@ impl fmt::Display for WordFault {
 }
 
 /// One line without its end: the field at fault or the place of the word, and what is wrong with it.
+// written by hand, as a derived one promises no text
 impl fmt::Display for Fault {
     ghost output = { λ x. Some (fault_text x) };
 

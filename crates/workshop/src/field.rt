@@ -1,21 +1,9 @@
 //! The fields of a request, and the words that give them.
-ghost use Rattle.std.specs.Prelude.{◌≡◌, ℕ, List, ◌∷◌, ◌++◌, MatchBool, MatchOption, MatchResult, ◌≢◌};
-ghost use Rattle.workshop.specs.Fields.{field_name, cipher_word, Plain, Gives, WordRefused, DecimalOf, Given, IsGiven, NotGiven};
+ghost use Rattle.std.specs.Prelude.{◌≡◌, ℕ, List, ◌∷◌, ◌++◌, Some, MatchBool, MatchOption, MatchResult};
+ghost use Rattle.workshop.specs.Fields.{field_name, NamesField, Plain, Gives, WordRefused, Given, IsGiven, NotGiven};
 
-/// A cipher, as one of the engines runs it.
-#[derive(Clone, Copy, PartialEq, Eq, Debug)]
-pub enum CipherName {
-    /// `grain128`
-    Grain128,
-    /// `grain128x32`
-    Grain128Wide,
-    /// `grain128a`
-    Grain128a,
-    /// `grain128ax32`
-    Grain128aWide,
-    /// `sprout`
-    Sprout,
-}
+use std::fmt;
+use std::str::FromStr;
 
 /// A field of a request.
 #[derive(Clone, Copy, PartialEq, Eq, Debug)]
@@ -68,50 +56,39 @@ impl Field {
     }
 }
 
-/// The field of this name, if one has it.
-pub(crate) fn field_named(name: &str) -> Option<Field>
-    ensures { MatchOption result ((f : Field) → name.now ≢ field_name f) (λ f. name.now ≡ field_name f) }
-{
-    match name {
-        "cipher" => Some(Field::Cipher),
-        "key" => Some(Field::Key),
-        "iv" => Some(Field::Iv),
-        "label" => Some(Field::Label),
-        "session" => Some(Field::Session),
-        "first" => Some(Field::First),
-        "count" => Some(Field::Count),
-        "message" => Some(Field::Message),
-        "text" => Some(Field::Text),
-        _ => None,
+/// The field of this name, and none for any other name.
+impl FromStr for Field {
+    type Err = WordFault;
+
+    ghost from_str_gives = { NamesField };
+
+    fn from_str(name: &str) -> Result<Field, WordFault> {
+        match name {
+            "cipher" => Ok(Field::Cipher),
+            "key" => Ok(Field::Key),
+            "iv" => Ok(Field::Iv),
+            "label" => Ok(Field::Label),
+            "session" => Ok(Field::Session),
+            "first" => Ok(Field::First),
+            "count" => Ok(Field::Count),
+            "message" => Ok(Field::Message),
+            "text" => Ok(Field::Text),
+            _ => Err(WordFault::UnknownField),
+        }
     }
 }
 
-/// The cipher that a word asks for: `grain128`, `grain128x32`, `grain128a`, `grain128ax32` or `sprout`, and none for any other word.
-pub(crate) fn cipher_named(word: &str) -> Option<CipherName>
-    ensures { MatchOption result ((c : CipherName) → word.now ≢ cipher_word c) (λ c. word.now ≡ cipher_word c) }
-{
-    match word {
-        "grain128" => Some(CipherName::Grain128),
-        "grain128x32" => Some(CipherName::Grain128Wide),
-        "grain128a" => Some(CipherName::Grain128a),
-        "grain128ax32" => Some(CipherName::Grain128aWide),
-        "sprout" => Some(CipherName::Sprout),
-        _ => None,
+/// A field is printed as its name.
+impl fmt::Display for Field {
+    ghost output = { λ x. Some (field_name x) };
+
+    fn fmt<W: fmt::Write>(&self, f: &mut fmt::Formatter<W>) -> fmt::Result {
+        f.write_str(self.name())
     }
 }
 
-/// The number that decimal digits write, if the text is one or more digits and nothing else and the number fits 32 bits.
-pub(crate) fn decimal_number(text: &str) -> Option<u32>
-    ensures { MatchOption result ((n : ℕ) → DecimalOf text.now n → ⊥) (DecimalOf text.now) }
-{
-    if text.starts_with('+') {
-        return None;
-    }
-    text.parse::<u32>().ok()
-}
-
-/// What stands before and after the first `=` of a word, if it has one.
-pub(crate) fn split_word(word: &str) -> Option<(&str, &str)>
+// What stands before and after the first `=` of a word, if it has one.
+fn split_word(word: &str) -> Option<(&str, &str)>
     ensures { MatchOption result (Plain word.now) (λ p. (word.now ≡ p.0.now ++ (61 ∷ p.1.now)) × Plain p.0.now) }
 {
     word.split_once('=')
@@ -121,13 +98,8 @@ pub(crate) fn split_word(word: &str) -> Option<(&str, &str)>
 pub(crate) fn read_word(word: &str) -> Result<(Field, &str), WordFault>
     ensures { MatchResult result (λ p. Gives p.0 p.1.now word.now) (WordRefused word.now) }
 {
-    let Some((name, value)) = split_word(word) else {
-        return Err(WordFault::NoEquals);
-    };
-    match field_named(name) {
-        Some(field) => Ok((field, value)),
-        None => Err(WordFault::UnknownField),
-    }
+    let (name, value) = split_word(word).ok_or(WordFault::NoEquals)?;
+    Ok((name.parse()?, value))
 }
 
 // The value that the word gives the field, if it gives it one.
@@ -141,12 +113,7 @@ fn value_in(word: &str, field: Field) -> Option<&str>
 pub(crate) fn value_of(words: &[String], field: Field) -> Option<&str>
     ensures { MatchOption result (NotGiven words.now field) (λ v. Given words.now field v.now) }
 {
-    for word in words {
-        if let Some(value) = value_in(word.as_str(), field) {
-            return Some(value);
-        }
-    }
-    None
+    words.iter().find_map(|word| value_in(word.as_str(), field))
 }
 
 /// Whether a word gives the field a value.

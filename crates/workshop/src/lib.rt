@@ -1,9 +1,6 @@
-//! The text of the tool `keystream`: hexadecimal digits read and written, dumps, and the words of a request.
+//! What is asked of the tool `keystream`: the words of a request, the fields that they give, and what can be wrong with them.
 #![tactic(auto)]
 
-pub mod dump;
 pub mod fault;
 pub mod field;
-pub mod hex;
 pub mod request;
-pub mod words;

@@ -1,15 +1,15 @@
 //! What is asked of the tool, read from words of the form `name=value`.
 ghost use Rattle.std.specs.Prelude.{length, Some, MatchResult};
-ghost use Rattle.workshop.specs.Fields.{cipher_word, Given, Apart};
+ghost use Rattle.texts.specs.Names.{cipher_word};
+ghost use Rattle.workshop.specs.Fields.{Given, Apart};
 ghost use Rattle.workshop.specs.Requests.{RequestRefused, OctetsIn, NumberIn, NumberOr, NonceIn, MessageIn, Asked};
 ghost use Rattle.workshop.specs.declared.field.Field.TheVariants.{Cipher, Key};
 
 use crate::fault::Fault;
-use crate::field::{
-    CipherName, Field, cipher_named, decimal_number, is_given, read_word, value_of,
-};
-use crate::hex::{HexFault, hex_octets};
+use crate::field::{Field, is_given, read_word, value_of};
 use std::alloc::Global;
+use texts::hex::{HexFault, hex_octets};
+use texts::names::{CipherName, decimal_number};
 
 /// The number, used once, that a session's keystream starts from.
 #[derive(Drop)]
@@ -47,100 +47,93 @@ fn check_words(words: &[String]) -> Result<(), Fault>
     ensures { MatchResult result (λ _. Apart words.now (length words.now)) (RequestRefused words.now) }
 {
     for (i, word) in words.iter().enumerate() {
-        match read_word(word.as_str()) {
-            Ok((field, _)) => {
-                if is_given(&words[0..i], field) {
-                    return Err(Fault::Twice(field));
-                }
-            }
-            Err(fault) => return Err(Fault::BadWord(i, fault)),
+        let (field, _) = read_word(word.as_str()).map_err(|fault| Fault::BadWord(i, fault))?;
+        if is_given(&words[0..i], field) {
+            return Err(Fault::Twice(field));
         }
     }
     Ok(())
 }
 
-fn octets_in(heap: Global, words: &[String], field: Field) -> Result<Option<Vec<u8>>, Fault>
-    ensures { MatchResult result (OctetsIn words.now field) (RequestRefused words.now) }
-{
-    let Some(text) = value_of(words, field) else {
-        return Ok(None);
-    };
-    match hex_octets(heap, text) {
-        Ok(octets) => Ok(Some(octets)),
-        Err(HexFault::NoMemory) => Err(Fault::NoMemory),
-        Err(fault) => Err(Fault::BadHex(field, fault)),
-    }
+// The words of a request, and the heap that what is read of them is put in.
+#[derive(Clone, Copy)]
+struct Words<'a> {
+    heap: Global,
+    words: &'a [String],
 }
 
-fn number_in(words: &[String], field: Field) -> Result<Option<u32>, Fault>
-    ensures { MatchResult result (NumberIn words.now field) (RequestRefused words.now) }
-{
-    let Some(text) = value_of(words, field) else {
-        return Ok(None);
-    };
-    match decimal_number(text) {
-        Some(number) => Ok(Some(number)),
-        None => Err(Fault::BadNumber(field)),
-    }
-}
-
-fn read_cipher(words: &[String]) -> Result<CipherName, Fault>
-    ensures { MatchResult result (λ c. Given words.now Cipher (cipher_word c)) (RequestRefused words.now) }
-{
-    let Some(word) = value_of(words, Field::Cipher) else {
-        return Err(Fault::Missing(Field::Cipher));
-    };
-    match cipher_named(word) {
-        Some(cipher) => Ok(cipher),
-        None => Err(Fault::UnknownCipher),
-    }
-}
-
-fn read_key(heap: Global, words: &[String]) -> Result<Vec<u8>, Fault>
-    ensures { MatchResult result (λ v. OctetsIn words.now Key (Some v)) (RequestRefused words.now) }
-{
-    match octets_in(heap, words, Field::Key)? {
-        Some(key) => Ok(key),
-        None => Err(Fault::Missing(Field::Key)),
-    }
-}
-
-fn number_or(words: &[String], field: Field, default: u32) -> Result<u32, Fault>
-    ensures { MatchResult result (NumberOr words.now field default) (RequestRefused words.now) }
-{
-    match number_in(words, field)? {
-        Some(number) => Ok(number),
-        None => Ok(default),
-    }
-}
-
-fn read_nonce(heap: Global, words: &[String]) -> Result<Nonce, Fault>
-    ensures { MatchResult result (NonceIn words.now) (RequestRefused words.now) }
-{
-    if let Some(iv) = octets_in(heap, words, Field::Iv)? {
-        if is_given(words, Field::Label) || is_given(words, Field::Session) {
-            return Err(Fault::TwoNonces);
+impl Words<'_> {
+    fn octets(&self, field: Field) -> Result<Option<Vec<u8>>, Fault>
+        ensures { MatchResult result (OctetsIn self.now.words.now field) (RequestRefused self.now.words.now) }
+    {
+        let Some(text) = value_of(self.words, field) else {
+            return Ok(None);
+        };
+        match hex_octets(self.heap, text) {
+            Ok(octets) => Ok(Some(octets)),
+            Err(HexFault::NoMemory) => Err(Fault::NoMemory),
+            Err(fault) => Err(Fault::BadHex(field, fault)),
         }
-        return Ok(Nonce::Iv(iv));
     }
-    let label = octets_in(heap, words, Field::Label)?;
-    let session = number_in(words, Field::Session)?;
-    match (label, session) {
-        (Some(label), Some(session)) => Ok(Nonce::Session { label, session }),
-        (Some(_), None) => Err(Fault::LabelAlone),
-        (None, Some(_)) => Err(Fault::SessionAlone),
-        (None, None) => Err(Fault::NoNonce),
-    }
-}
 
-fn read_message(heap: Global, words: &[String]) -> Result<Option<Vec<u8>>, Fault>
-    ensures { MatchResult result (MessageIn words.now) (RequestRefused words.now) }
-{
-    let message = octets_in(heap, words, Field::Message)?;
-    match (message, value_of(words, Field::Text)) {
-        (Some(_), Some(_)) => Err(Fault::TwoMessages),
-        (None, Some(text)) => Ok(Some(Vec::from_slice(heap, text.as_bytes())?)),
-        (message, None) => Ok(message),
+    fn number(&self, field: Field) -> Result<Option<u32>, Fault>
+        ensures { MatchResult result (NumberIn self.now.words.now field) (RequestRefused self.now.words.now) }
+    {
+        let Some(text) = value_of(self.words, field) else {
+            return Ok(None);
+        };
+        let number = decimal_number(text).ok_or(Fault::BadNumber(field))?;
+        Ok(Some(number))
+    }
+
+    fn number_or(&self, field: Field, default: u32) -> Result<u32, Fault>
+        ensures { MatchResult result (NumberOr self.now.words.now field default) (RequestRefused self.now.words.now) }
+    {
+        Ok(self.number(field)?.unwrap_or(default))
+    }
+
+    fn cipher(&self) -> Result<CipherName, Fault>
+        ensures { MatchResult result (λ c. Given self.now.words.now Cipher (cipher_word c)) (RequestRefused self.now.words.now) }
+    {
+        let word = value_of(self.words, Field::Cipher).ok_or(Fault::Missing(Field::Cipher))?;
+        Ok(word.parse()?)
+    }
+
+    fn key(&self) -> Result<Vec<u8>, Fault>
+        ensures { MatchResult result (λ v. OctetsIn self.now.words.now Key (Some v)) (RequestRefused self.now.words.now) }
+    {
+        self.octets(Field::Key)?.ok_or(Fault::Missing(Field::Key))
+    }
+
+    fn nonce(&self) -> Result<Nonce, Fault>
+        ensures { MatchResult result (NonceIn self.now.words.now) (RequestRefused self.now.words.now) }
+    {
+        let words = self.words;
+        if let Some(iv) = self.octets(Field::Iv)? {
+            if is_given(words, Field::Label) || is_given(words, Field::Session) {
+                return Err(Fault::TwoNonces);
+            }
+            return Ok(Nonce::Iv(iv));
+        }
+        let label = self.octets(Field::Label)?;
+        let session = self.number(Field::Session)?;
+        match (label, session) {
+            (Some(label), Some(session)) => Ok(Nonce::Session { label, session }),
+            (Some(_), None) => Err(Fault::LabelAlone),
+            (None, Some(_)) => Err(Fault::SessionAlone),
+            (None, None) => Err(Fault::NoNonce),
+        }
+    }
+
+    fn message(&self) -> Result<Option<Vec<u8>>, Fault>
+        ensures { MatchResult result (MessageIn self.now.words.now) (RequestRefused self.now.words.now) }
+    {
+        let message = self.octets(Field::Message)?;
+        match (message, value_of(self.words, Field::Text)) {
+            (Some(_), Some(_)) => Err(Fault::TwoMessages),
+            (None, Some(text)) => Ok(Some(Vec::from_slice(self.heap, text.as_bytes())?)),
+            (message, None) => Ok(message),
+        }
     }
 }
 
@@ -158,18 +151,13 @@ pub fn read_request(heap: Global, words: &[String]) -> Result<Request, Fault>
     ensures { MatchResult result (Asked words.now) (RequestRefused words.now) }
 {
     check_words(words)?;
-    let cipher = read_cipher(words)?;
-    let key = read_key(heap, words)?;
-    let nonce = read_nonce(heap, words)?;
-    let first = number_or(words, Field::First, 0)?;
-    let count = number_or(words, Field::Count, 16)?;
-    let message = read_message(heap, words)?;
+    let words = Words { heap, words };
     Ok(Request {
-        cipher,
-        key,
-        nonce,
-        first,
-        count,
-        message,
+        cipher: words.cipher()?,
+        key: words.key()?,
+        nonce: words.nonce()?,
+        first: words.number_or(Field::First, 0)?,
+        count: words.number_or(Field::Count, 16)?,
+        message: words.message()?,
     })
 }

@@ -1,7 +1,7 @@
 use Rattle.std.proofs.Common.{vec_items, subst}
 use Rattle.keystreams.specs.Answers.{CoverRefused}
 use Rattle.keystreams.specs.Uses.{place}
-use Rattle.workshop.proofs.Exits.{exit}
+use Rattle.texts.proofs.Exits.{exit}
 use Rattle.keystreams.proofs.Kept.{length_again, uncovered_again}
 use Rattle.keystreams.proofs.answers.message_from.Goals as goal
 

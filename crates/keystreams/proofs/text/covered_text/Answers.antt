@@ -1,6 +1,6 @@
 use Rattle.std.proofs.Common.{ap, ◌∙◌}
 use Rattle.std.proofs.lemmas.Result.{IfOk-weaker}
-use Rattle.workshop.specs.Dump.{dump_text}
+use Rattle.texts.specs.Dump.{dump_text}
 use Rattle.keystreams.proofs.Pieces.{covered_pieces}
 use Rattle.keystreams.proofs.text.covered_text.Goals as goal
 

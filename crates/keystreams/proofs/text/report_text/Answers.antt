@@ -1,6 +1,6 @@
 use Rattle.std.proofs.Common.{string_bytes, ap, ◌∙◌}
 use Rattle.std.proofs.lemmas.Result.{IfOk-weaker}
-use Rattle.workshop.specs.Dump.{hex_digits, dump_text}
+use Rattle.texts.specs.Dump.{hex_digits, dump_text}
 use Rattle.keystreams.proofs.Pieces.{report_pieces}
 use Rattle.keystreams.proofs.text.report_text.Goals as goal
 
