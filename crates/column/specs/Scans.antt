@@ -1,6 +1,12 @@
 -- What one scan over the words of a column finds.
-use Rattle.std.specs.Prelude.{◌≡◌, ℕ, ◌+◌, ◌<◌, List, length, slice_index_or, slice_set}
+use Rattle.std.specs.Prelude.{◌≡◌, ℕ, ◌+◌, ◌*◌, ◌<◌, List, [], ◌∷◌, length, slice_index_or, slice_set, Option, MatchOption}
 use Rattle.column.specs.Columns.{used, all_ones, blanks, rewritten, column_mark}
+
+-- the pairs of a list of words; an odd last word is in none
+abbrev pub pairs : List ℕ → List (List ℕ)
+pairs [] = []
+pairs (a ∷ []) = []
+pairs (a ∷ (b ∷ rest)) = (a ∷ (b ∷ [])) ∷ pairs rest
 
 -- the first blank pair starts at this index: to write it over is to write there
 pub record Vacant (words : List ℕ) (at : ℕ) : Type 0 where
@@ -8,8 +14,8 @@ pub record Vacant (words : List ℕ) (at : ℕ) : Type 0 where
   pub second_is : slice_index_or words (at + 1) 0 ≡ all_ones
   pub writes : (x y : ℕ) → rewritten x y words ≡ slice_set (slice_set words at x) (at + 1) y
 
--- the mark, how many pairs are blank, and where the first of them starts
-pub record Scanned (words : List ℕ) (mark blank-pairs first-blank : ℕ) : Type 0 where
+-- the mark, how many pairs are blank, and which of them is the first
+pub record Scanned (words : List ℕ) (mark blank-pairs : ℕ) (first-blank : Option ℕ) : Type 0 where
   pub mark_is : mark ≡ column_mark words
   pub blanks_are : blank-pairs ≡ blanks (used words)
-  pub vacant : 0 < blank-pairs → Vacant words first-blank
+  pub vacant : MatchOption first-blank (blank-pairs ≡ 0) (λ i. (0 < blank-pairs) × Vacant words (2 * i))

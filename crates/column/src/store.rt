@@ -10,6 +10,7 @@ use marks::store::MarkStore;
 use stream::refusal::Refusal;
 
 /// A mark store in lent memory: 32-bit words in pairs, of which at most the first 8,192 words are used. An odd last word is ignored.
+// That a call keeps the lent memory is one equation in each contract, `lender`: a definition would say it no shorter.
 #[derive(Drop)]
 pub struct Column<'a> {
     words: &'a mut [u32],

@@ -1,9 +1,9 @@
 //! What the words of a column mean, and how a raise changes them.
-ghost use Rattle.std.specs.Prelude.{◌≡◌, ◌+◌, ◌<◌, MatchResult};
+ghost use Rattle.std.specs.Prelude.{◌≡◌, ◌+◌, ◌<◌, ◌≤◌, ◌*◌, length, MatchResult};
 ghost use Rattle.stream.specs.Refusals.{number};
 ghost use Rattle.marks.specs.Stores.{Granted, Raised, Torn};
-ghost use Rattle.column.specs.Columns.{counts, blank, column_mark, column_left, raised_by, torn_by};
-ghost use Rattle.column.specs.Scans.{Scanned, Vacant};
+ghost use Rattle.column.specs.Columns.{used, counts, blank, column_mark, column_left, raised_by, torn_by};
+ghost use Rattle.column.specs.Scans.{pairs, Scanned, Vacant};
 
 use stream::refusal::Refusal;
 
@@ -13,12 +13,12 @@ const USED_WORDS: usize = 8192;
 // every bit of a word
 const ALL_ONES: u32 = 0xFFFF_FFFF;
 
-// what a scan finds
+// what a scan finds: the mark, how many pairs are blank, and which of the pairs is the first blank one
 #[derive(Clone, Copy)]
 struct Findings {
     mark: u32,
     blanks: u32,
-    first_blank: usize,
+    first_blank: Option<usize>,
 }
 
 // where a raise writes, and the mark that it writes there
@@ -42,25 +42,28 @@ fn erased(first: u32, second: u32) -> bool
     first == ALL_ONES && second == ALL_ONES
 }
 
-// The mark, the number of blank pairs, and the index of the first of them.
+// The pairs of words that a column uses; an odd last word is in none.
+fn used_pairs(words: &[u32]) -> &[[u32; 2]]
+    ensures value { result.now ≡ pairs (used words.now) }
+    ensures few { length result.now ≤ 4096 }
+{
+    let (pairs, _) = words[..USED_WORDS.min(words.len())].as_chunks::<2>();
+    pairs
+}
+
+// What the words of a memory hold. One loop and not a chain for each finding: a read passes over the memory once.
 fn scan(words: &[u32]) -> Findings
     ensures { Scanned words.now result.mark result.blanks result.first_blank }
 {
     let mut mark = 0u32;
     let mut blanks = 0u32;
-    let mut first_blank = 0usize;
-    for pair in 0..words.len().min(USED_WORDS) / 2 {
-        let at = 2 * pair;
-        let first = words[at];
-        let second = words[at + 1];
+    let mut first_blank = None;
+    for (i, &[first, second]) in used_pairs(words).iter().enumerate() {
         if counted(first, second) {
             mark = mark.max(first);
         }
         if erased(first, second) {
-            let is_first = blanks == 0;
-            if is_first {
-                first_blank = at;
-            }
+            first_blank = first_blank.or(Some(i));
             blanks += 1;
         }
     }
@@ -76,13 +79,9 @@ fn next_slot(words: &[u32]) -> Result<Slot, Refusal>
     ensures { MatchResult result (λ slot. (0 < column_left words.now) × (slot.mark ≡ column_mark words.now + 1) × Vacant words.now slot.at) (λ e. (number e ≡ 10) × (column_left words.now ≡ 0)) }
 {
     let found = scan(words);
-    if found.blanks == 0 || found.mark == ALL_ONES {
-        return Err(Refusal::NoRaiseLeft);
-    }
-    Ok(Slot {
-        at: found.first_blank,
-        mark: found.mark + 1,
-    })
+    let pair = found.first_blank.ok_or(Refusal::NoRaiseLeft)?;
+    let mark = found.mark.checked_add(1).ok_or(Refusal::NoRaiseLeft)?;
+    Ok(Slot { at: 2 * pair, mark })
 }
 
 /// The mark: the largest first word of a pair that counts, or 0.
@@ -111,6 +110,7 @@ pub fn raise(words: &mut [u32]) -> Result<(), Refusal>
     Ok(())
 }
 
+// Each branch writes its own words, though the last writes those of a raise: so the order of the writes stands in the code.
 /// A raise in which the power fails after the first `writes_done` of its two writes, and leaves `junk` where it was writing.
 /// It is refused as a raise is.
 pub fn torn_raise(words: &mut [u32], writes_done: u32, junk: u32) -> Result<(), Refusal>

@@ -28,24 +28,6 @@ module _ (c : Command) (ws : List (List ℕ)) where
   pub count_refused : (rows : List (List Kind)) → takes c ≡ rows → ((row : List Kind) → OneOf row rows → Fits row ws → ⊥) → WordsRefused (command_word c ∷ ws) WordCount
   count_refused rows e h = (c, ws, refl, λ row o f. h row (subst (OneOf row) e o) f)
 
-  pub refused_none : takes c ≡ [] ∷ [] → (ws ≡ [] → ⊥) → WordsRefused (command_word c ∷ ws) WordCount
-  refused_none e h = count_refused _ e (λ row. ⊎_elim (λ p f. h (fits_none ws (subst (λ r. Fits r ws) p f))) (λ no f. absurd no))
-
-  pub refused_one : (k : Kind) → takes c ≡ (k ∷ []) ∷ [] → ((a : List ℕ) → ws ≡ a ∷ [] → ⊥) → WordsRefused (command_word c ∷ ws) WordCount
-  refused_one k e h = count_refused _ e (λ row. ⊎_elim (λ p f. let g = fits_one k ws (subst (λ r. Fits r ws) p f) in h g.0 g.1) (λ no f. absurd no))
-
-  pub refused_none_one : (k : Kind) → takes c ≡ [] ∷ (k ∷ []) ∷ [] → (ws ≡ [] → ⊥) → ((a : List ℕ) → ws ≡ a ∷ [] → ⊥) → WordsRefused (command_word c ∷ ws) WordCount
-  refused_none_one k e n h =
-      count_refused _ e
-      (λ row. ⊎_elim (λ p f. n (fits_none ws (subst (λ r. Fits r ws) p f)))
-      (⊎_elim (λ p f. let g = fits_one k ws (subst (λ r. Fits r ws) p f) in h g.0 g.1) (λ no f. absurd no)))
-
-  pub refused_one_fresh : (j k : Kind) → takes c ≡ (j ∷ []) ∷ (fresh_kind ∷ k ∷ []) ∷ [] → ((a : List ℕ) → ws ≡ a ∷ [] → ⊥) → ((a b : List ℕ) → ws ≡ a ∷ b ∷ [] → a ≡ codes "fresh" → ⊥) → WordsRefused (command_word c ∷ ws) WordCount
-  refused_one_fresh j k e n h =
-      count_refused _ e
-      (λ row. ⊎_elim (λ p f. let g = fits_one j ws (subst (λ r. Fits r ws) p f) in n g.0 g.1)
-      (⊎_elim (λ p f. let g = fits-two fresh_kind k ws (subst (λ r. Fits r ws) p f) in h g.0 g.1 g.2 g.3) (λ no f. absurd no)))
-
   pub refused_two : (j k : Kind) → takes c ≡ (j ∷ k ∷ []) ∷ [] → ((a b : List ℕ) → ws ≡ a ∷ b ∷ [] → ⊥) → WordsRefused (command_word c ∷ ws) WordCount
   refused_two j k e h = count_refused _ e (λ row. ⊎_elim (λ p f. let g = fits-two j k ws (subst (λ r. Fits r ws) p f) in h g.0 g.1 g.2) (λ no f. absurd no))
 

@@ -1,10 +1,11 @@
 -- What a line says, and why it is refused.
-use Rattle.std.specs.Prelude.{◌≡◌, ℕ, ◌%◌, ◌⊎◌, List, [], ◌∷◌, ◌++◌, length, vec_items, codes, ◌≢◌}
+use Rattle.std.specs.Prelude.{◌≡◌, ℕ, ◌%◌, ◌⊎◌, List, [], ◌∷◌, ◌++◌, length, vec_items, codes, Result, MatchResult, ◌≢◌}
 use Rattle.std.specs.Str.Parse.{AllDigits, digits_value}
 use Rattle.texts.specs.Hex.{HexOf, HexRefused}
 use Rattle.texts.specs.Names.{cipher_word, DecimalOf}
 use Rattle.texts.specs.Words.{words_of}
-use Rattle.texts.specs.declared.hex.HexFault.TheVariants.{NoMemory as NoMemoryForHex}
+use Rattle.texts.specs.declared.hex.HexFault.{HexFault}
+use Rattle.texts.specs.declared.hex.HexFault.TheVariants.{BadDigit, OddCount, NoMemory as NoMemoryForHex}
 use Rattle.texts.specs.declared.names.CipherName.{CipherName}
 use Rattle.scenario.specs.Grammar.{Kind, engine_kind, number_kind, octets_kind, word32_kind, command_word, takes, OneOf, Fits, ReadAs}
 use Rattle.scenario.specs.declared.command.Command.{Command}
@@ -14,6 +15,12 @@ use Rattle.scenario.specs.declared.line.Line.{Line}
 use Rattle.scenario.specs.declared.line.Line.TheVariants.{Blank, Sender, Receiver, Strip, FreshStrip, Column, FreshColumn, Key, Label, Allowance, Room, Open, Close, Cut, Pair, TornOpen, Send, Deliver, Alter, Noise}
 use Rattle.scenario.specs.declared.values.Memory.{Memory}
 use Rattle.scenario.specs.declared.values.Memory.TheVariants.{Written, Fresh}
+
+-- the fault of a line by that of its hexadecimal digits
+abbrev pub hex_fault : HexFault → LineFault
+hex_fault (BadDigit i) = BadHex (BadDigit i)
+hex_fault OddCount = BadHex OddCount
+hex_fault NoMemoryForHex = NoMemory
 
 -- the text is 8 hexadecimal digits, the most significant first, and writes n
 pub record Word32Of (bs : List ℕ) (n : ℕ) : Type 0 where
@@ -41,6 +48,10 @@ OctetsAfter first ws xs = ((ws ≡ first ∷ []) × (xs ≡ [])) ⊎ HexAfter fi
 abbrev pub MemoryAfter : List ℕ → List (List ℕ) → Memory → Type 0
 MemoryAfter first ws (Written v) = HexAfter first ws (vec_items v)
 MemoryAfter first ws (Fresh n) = FreshAfter first ws n
+
+-- what a word gives that is read as a command: the command that has that word, or an error where none has it
+abbrev pub NamesCommand : List ℕ → Result Command LineFault → Type 0
+NamesCommand w r = MatchResult r (λ c. w ≡ command_word c) (λ e. (e ≡ UnknownWord) × ((c : Command) → w ≢ command_word c))
 
 -- what the words of a line say
 abbrev pub WordsSay : List (List ℕ) → Line → Type 0

@@ -1,6 +1,8 @@
 //! The words that a line can begin with.
-ghost use Rattle.std.specs.Prelude.{◌≡◌, MatchOption, ◌≢◌};
-ghost use Rattle.scenario.specs.Grammar.{command_word};
+ghost use Rattle.scenario.specs.Says.{NamesCommand};
+
+use crate::fault::LineFault;
+use std::str::FromStr;
 
 /// What a line begins with, which says what its other words are.
 #[derive(Clone, Copy)]
@@ -43,29 +45,33 @@ pub enum Command {
     Noise,
 }
 
-/// The command that a word names, if it names one.
-pub fn command_named(word: &str) -> Option<Command>
-    ensures { MatchOption result ((c : Command) → word.now ≢ command_word c) (λ c. word.now ≡ command_word c) }
-{
-    match word {
-        "sender" => Some(Command::Sender),
-        "receiver" => Some(Command::Receiver),
-        "strip" => Some(Command::Strip),
-        "column" => Some(Command::Column),
-        "key" => Some(Command::Key),
-        "label" => Some(Command::Label),
-        "allowance" => Some(Command::Allowance),
-        "room" => Some(Command::Room),
-        "open" => Some(Command::Open),
-        "close" => Some(Command::Close),
-        "cut" => Some(Command::Cut),
-        "pair" => Some(Command::Pair),
-        "torn" => Some(Command::Torn),
-        "send" => Some(Command::Send),
-        "say" => Some(Command::Say),
-        "deliver" => Some(Command::Deliver),
-        "alter" => Some(Command::Alter),
-        "noise" => Some(Command::Noise),
-        _ => None,
+/// The command that a word names, and `LineFault::UnknownWord` where it names none.
+impl FromStr for Command {
+    type Err = LineFault;
+
+    ghost from_str_gives = { NamesCommand };
+
+    fn from_str(word: &str) -> Result<Command, LineFault> {
+        match word {
+            "sender" => Ok(Command::Sender),
+            "receiver" => Ok(Command::Receiver),
+            "strip" => Ok(Command::Strip),
+            "column" => Ok(Command::Column),
+            "key" => Ok(Command::Key),
+            "label" => Ok(Command::Label),
+            "allowance" => Ok(Command::Allowance),
+            "room" => Ok(Command::Room),
+            "open" => Ok(Command::Open),
+            "close" => Ok(Command::Close),
+            "cut" => Ok(Command::Cut),
+            "pair" => Ok(Command::Pair),
+            "torn" => Ok(Command::Torn),
+            "send" => Ok(Command::Send),
+            "say" => Ok(Command::Say),
+            "deliver" => Ok(Command::Deliver),
+            "alter" => Ok(Command::Alter),
+            "noise" => Ok(Command::Noise),
+            _ => Err(LineFault::UnknownWord),
+        }
     }
 }

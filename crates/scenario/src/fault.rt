@@ -1,11 +1,13 @@
 //! Why a line is refused, and the text that is printed for it.
 ghost use Rattle.std.specs.Prelude.{◌≡◌, Some};
 ghost use Rattle.scenario.specs.Messages.{line_fault_text};
-ghost use Rattle.scenario.specs.declared.fault.LineFault.TheVariants.{NoMemory};
+ghost use Rattle.scenario.specs.Says.{hex_fault};
+ghost use Rattle.scenario.specs.declared.fault.LineFault.TheVariants.{UnknownEngine, NoMemory};
 
 use std::alloc::AllocError;
 use std::fmt;
 use texts::hex::HexFault;
+use texts::names::UnknownCipher;
 
 /// Why a line is refused.
 #[derive(Clone, Copy)]
@@ -36,7 +38,27 @@ impl From<AllocError> for LineFault {
     }
 }
 
+impl From<UnknownCipher> for LineFault {
+    ghost from_gives = { λ _ r. r ≡ UnknownEngine };
+
+    fn from(_e: UnknownCipher) -> LineFault {
+        LineFault::UnknownEngine
+    }
+}
+
+impl From<HexFault> for LineFault {
+    ghost from_gives = { λ e r. r ≡ hex_fault e };
+
+    fn from(fault: HexFault) -> LineFault {
+        match fault {
+            HexFault::NoMemory => LineFault::NoMemory,
+            fault => LineFault::BadHex(fault),
+        }
+    }
+}
+
 /// What is wrong with a line, in a few words.
+// written by hand, as a derived one promises no text
 impl fmt::Display for LineFault {
     ghost output = { λ x. Some (line_fault_text x) };
 

@@ -4,7 +4,7 @@ ghost use Rattle.scenario.specs.Grammar.{command_word, takes, line_words};
 ghost use Rattle.scenario.specs.Says.{WordsSay, WordsRefused, Unquoted, Says, Unsaid};
 ghost use Rattle.scenario.specs.declared.command.Command.TheVariants.{Strip, Column, Torn, Alter};
 
-use crate::command::{Command, command_named};
+use crate::command::Command;
 use crate::fault::LineFault;
 use crate::line::Line;
 use crate::values::{
@@ -16,7 +16,8 @@ use texts::words::split_words;
 
 // What a command that takes no words says, where none follows it.
 fn bare_line(command: Command, rest: &[String], line: Line) -> Result<Line, LineFault>
-    requires { (takes command ≡ [] ∷ []) × (WordsSay (command_word command ∷ []) line) }
+    requires no_words { takes command ≡ [] ∷ [] }
+    requires says { WordsSay (command_word command ∷ []) line }
     ensures { MatchResult result (WordsSay (line_words command rest.now)) (WordsRefused (line_words command rest.now)) }
 {
     if rest.is_empty() {
@@ -53,9 +54,7 @@ fn column_line(heap: Global, rest: &[String]) -> Result<Line, LineFault>
 fn torn_line(rest: &[String]) -> Result<Line, LineFault>
     ensures { MatchResult result (WordsSay (line_words Torn rest.now)) (WordsRefused (line_words Torn rest.now)) }
 {
-    let Some((writes, junk)) = two_words(rest) else {
-        return Err(LineFault::WordCount);
-    };
+    let (writes, junk) = two_words(rest)?;
     Ok(Line::TornOpen {
         writes: number(writes)?,
         junk: word32(junk)?,
@@ -65,9 +64,7 @@ fn torn_line(rest: &[String]) -> Result<Line, LineFault>
 fn alter_line(heap: Global, rest: &[String]) -> Result<Line, LineFault>
     ensures { MatchResult result (WordsSay (line_words Alter rest.now)) (WordsRefused (line_words Alter rest.now)) }
 {
-    let Some((frame, at, change)) = three_words(rest) else {
-        return Err(LineFault::WordCount);
-    };
+    let (frame, at, change) = three_words(rest)?;
     Ok(Line::Alter {
         frame: number(frame)?,
         at: number(at)?,
@@ -107,10 +104,7 @@ fn read_words(heap: Global, words: &[String]) -> Result<Line, LineFault>
     let Some((first, rest)) = words.split_first() else {
         return Ok(Line::Blank);
     };
-    match command_named(first.as_str()) {
-        Some(command) => read_command(heap, command, rest),
-        None => Err(LineFault::UnknownWord),
-    }
+    read_command(heap, first.as_str().parse()?, rest)
 }
 
 // The text after `say` and a space, if the line begins so.
@@ -127,7 +121,7 @@ fn quoted_text(line: &str) -> Option<&str>
 ///
 /// - A number is one or more decimal digits that write a number of 32 bits, as `decimal_number` reads it.
 /// - Octets are an even count of hexadecimal digits, as `hex_octets` reads them.
-/// - An engine is a name that `cipher_named` knows.
+/// - An engine is the word of a `CipherName`.
 ///
 /// What a refusal says is wrong is so. Where several things are wrong, the contract does not say which is answered;
 /// want of memory can be answered for any line.

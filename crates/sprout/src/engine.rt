@@ -1,6 +1,6 @@
 //! The engine.
-ghost use Rattle.std.specs.Prelude.{◌≡◌, false, length, slice_index_or, refl};
-ghost use Rattle.stream.specs.Bits.{bit, bits, times};
+ghost use Rattle.std.specs.Prelude.{◌≡◌, length, refl};
+ghost use Rattle.stream.specs.Bits.{times};
 ghost use Rattle.sprout.specs.Sprout.{initial, loaded, sprout, state_of};
 
 use crate::counter::Counter;
@@ -36,24 +36,13 @@ impl Sprout {
         }
     }
 
-    /// The taps at the next clock, by the key and the counter.
-    fn round(&self, early: bool) -> Round
-        ensures early { result.early ≡ early }
-        ensures key_bit { result.key_bit ≡ slice_index_or (bits 80 self.now.key) self.now.counter false }
-        ensures counter_bit { result.counter_bit ≡ bit self.now.counter 4 }
-    {
-        Round {
-            early,
-            key_bit: self.counter.bit_of(self.key),
-            counter_bit: self.counter.bit_4(),
-        }
-    }
-
     /// One clock of the initialisation.
     fn initialise_once(&mut self, early: bool)
         ensures { state_of self.new ≡ initial early (state_of self.old) }
     {
-        self.pair = self.pair.initialised(self.round(early), 1);
+        self.pair = self
+            .pair
+            .initialised(Round::at(self.counter, self.key, early), 1);
         self.counter = self.counter.next();
     }
 
@@ -128,7 +117,9 @@ impl Engine for Sprout {
         if n == 0 {
             return (0, 0);
         }
-        let drawn = self.pair.clocked(self.round(false), 1, Self::STRIDE);
+        let drawn = self
+            .pair
+            .clocked(Round::at(self.counter, self.key, false), 1, Self::STRIDE);
         self.pair = drawn.pair;
         self.counter = self.counter.next();
         (drawn.bits, drawn.count)
@@ -140,7 +131,8 @@ impl Reversible for Sprout {
         ensures alone { (t : sprout.State) → sprout.next t ≡ state_of self.old → state_of self.new ≡ t }
         ensures found { sprout.next (state_of self.new) ≡ state_of self.old }
     {
-        self.counter = self.counter.previous();
-        self.pair = self.pair.undone(self.round(false));
+        let counter = self.counter.previous();
+        self.pair = self.pair.undone(Round::at(counter, self.key, false));
+        self.counter = counter;
     }
 }

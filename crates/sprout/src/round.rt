@@ -1,8 +1,10 @@
 //! The feedbacks and the output of one clock.
-ghost use Rattle.std.specs.Prelude.{◌≡◌};
+ghost use Rattle.std.specs.Prelude.{◌≡◌, false, slice_index_or};
+ghost use Rattle.stream.specs.Bits.{bit, bits};
 ghost use Rattle.registers.specs.Words.{filled, word};
 ghost use Rattle.sprout.specs.Sprout.{shape as shape_of, round_key};
 
+use crate::counter::Counter;
 use registers::taps::Taps;
 use registers::window::Window;
 use registers::{high, low, middle};
@@ -26,6 +28,19 @@ fn word_of(bit: bool) -> u64
 }
 
 impl Round {
+    /// The taps at the clock that a counter stands at, by the key.
+    pub(crate) fn at(counter: Counter, key: u128, early: bool) -> Self
+        ensures early { result.early ≡ early }
+        ensures key_bit { result.key_bit ≡ slice_index_or (bits 80 key) counter false }
+        ensures counter_bit { result.counter_bit ≡ bit counter 4 }
+    {
+        Round {
+            early,
+            key_bit: counter.bit_of(key),
+            counter_bit: counter.bit_4(),
+        }
+    }
+
     /// The round key.
     fn key_word(self, s: Window, b: Window) -> u64
         ensures { result ≡ word s b (round_key self.early self.key_bit) }

@@ -67,15 +67,6 @@ first_cleared-ones [] h = absurd (omega arith)
 first_cleared-ones (true ∷ xs) h = omega arith
 first_cleared-ones (false ∷ xs) h = first_cleared-ones xs h
 
-first_cleared-zeros : (xs : List Bool) → 0 < ones xs → zeros (first_cleared xs) ≡ zeros xs + 1
-unfolding ones zeros first_cleared
-first_cleared-zeros [] h = absurd (omega arith)
-first_cleared-zeros (true ∷ xs) h = omega arith
-first_cleared-zeros (false ∷ xs) h = omega (arith, first_cleared-zeros xs h)
-
--- a lowered octet has one more zero bit and one one bit less
+-- a lowered octet has one one bit less
 pub lowered-ones : (x : ℕ) → 0 < ones (bits 8 x) → ones (bits 8 (lowered x)) + 1 ≡ ones (bits 8 x)
 lowered-ones x h = rw bits-lowered (first_cleared-ones (bits 8 x) h)
-
-pub lowered-zeros : (x : ℕ) → 0 < ones (bits 8 x) → zeros (bits 8 (lowered x)) ≡ zeros (bits 8 x) + 1
-lowered-zeros x h = rw bits-lowered (first_cleared-zeros (bits 8 x) h)

@@ -1,6 +1,7 @@
 -- The mark and the raises left of a strip are never more than a mark can be: together they count the bits of the used octets.
 use Rattle.std.specs.Prelude.{◌≡◌, ℕ, ◌+◌, ◌*◌, ◌≤◌, Bool, true, false, List, [], ◌∷◌, length, refl}
 use Rattle.std.proofs.Common.{arith, length-take}
+use Rattle.std.proofs.lemmas.List.Sums.{sum_by-cons}
 use Rattle.marks.specs.Stores.{largest_mark}
 use Rattle.stream.specs.Bits.{first, bits}
 use Rattle.strip.specs.Strips.{used, ones, zeros, sum_of, strip_mark, strip_left}
@@ -18,9 +19,8 @@ eight x = zeros-and-ones (bits 8 x)
 
 -- both sums together, over any octets
 pub all_bits : (xs : List ℕ) → sum_of (λ x. zeros (bits 8 x)) xs + sum_of (λ x. ones (bits 8 x)) xs ≡ 8 * length xs
-unfolding sum_of
 all_bits [] = refl
-all_bits (x ∷ xs) = omega (arith, eight x, all_bits xs)
+all_bits (x ∷ xs) = omega (arith, eight x, all_bits xs, sum_by-cons (λ y. zeros (bits 8 y)) x xs, sum_by-cons (λ y. ones (bits 8 y)) x xs)
 
 pub strip_bound : (octets : List ℕ) → strip_mark octets + strip_left octets ≤ largest_mark
 strip_bound octets = omega (arith, all_bits (used octets), length-take 4096 octets)

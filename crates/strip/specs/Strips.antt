@@ -1,5 +1,5 @@
 -- The strip: octets, FF hex when fresh, of which at most the first 4,096 are used. The mark counts zero bits, the raises left count one bits.
-use Rattle.std.specs.Prelude.{ℕ, zero, suc, ◌+◌, ◌%◌, Bool, true, false, cond, List, [], ◌∷◌, ◌++◌, take, drop, nat_le}
+use Rattle.std.specs.Prelude.{ℕ, zero, suc, ◌+◌, ◌%◌, Bool, true, false, cond, List, [], ◌∷◌, ◌++◌, take, drop, nat_le, sum_by}
 use Rattle.stream.specs.Bits.{bits, packed, times}
 
 -- the octets that are used
@@ -18,9 +18,8 @@ zeros (true ∷ xs) = zeros xs
 zeros (false ∷ xs) = suc (zeros xs)
 
 -- the sum of a number of each octet
-unfoldable pub sum_of : (ℕ → ℕ) → List ℕ → ℕ
-sum_of f [] = 0
-sum_of f (x ∷ xs) = f x + sum_of f xs
+abbrev pub sum_of : (ℕ → ℕ) → List ℕ → ℕ
+sum_of f octets = sum_by f octets
 
 -- M counts the zero bits of the used octets, R their one bits
 abbrev pub strip_mark : List ℕ → ℕ

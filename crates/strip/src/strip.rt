@@ -1,5 +1,5 @@
 //! The strip: a mark store over lent octets.
-ghost use Rattle.std.specs.Prelude.{◌≡◌, ◌<◌, if◌then◌else◌, MatchOption, MatchResult};
+ghost use Rattle.std.specs.Prelude.{◌≡◌, ◌<◌, ◌≤◌, length, All, if◌then◌else◌, MatchResult};
 ghost use Rattle.marks.specs.Stores.{Raised, Torn, Granted};
 ghost use Rattle.stream.specs.Refusals.{number};
 ghost use Rattle.strip.specs.Strips.{used, strip_mark, strip_left, lowered, raised_by, writes_made};
@@ -19,6 +19,7 @@ pub const WRITES: u32 = 1;
 /// A mark store over lent octets, FF hex when fresh, of which at most the first 4,096 are used.
 ///
 /// The mark counts the zero bits of the used octets, the raises left count their one bits. Whatever stands in the memory means a strip.
+// That a call keeps the lent memory is one equation in each contract, `place`: a definition would say it no shorter.
 #[derive(Drop)]
 pub struct Strip<'a> {
     octets: &'a mut [u8],
@@ -45,12 +46,14 @@ impl MarkStore for Strip<'_> {
 
     /// How many bits of the used octets are 0.
     fn read(&self) -> u32 {
-        mark_of(self.octets)
+        let octets = used_octets(self.octets);
+        octets.iter().map(|octet| octet.count_zeros()).sum()
     }
 
     /// How many bits of the used octets are 1.
     fn raises_left(&self) -> u32 {
-        left_of(self.octets)
+        let octets = used_octets(self.octets);
+        octets.iter().map(|octet| octet.count_ones()).sum()
     }
 
     /// Clears the lowest one bit of the first used octet that has any. Refused with 10 when no bit is left to clear, and only then.
@@ -75,58 +78,35 @@ impl MarkStore for Strip<'_> {
 
 // The octets of a memory that a strip uses.
 fn used_octets(octets: &[u8]) -> &[u8]
-    ensures { result.now ≡ used octets.now }
+    ensures front { result.now ≡ used octets.now }
+    ensures few { length result.now ≤ 4096 }
+    ensures octets { All (λ x. x < 256) result.now }
 {
-    &octets[..octets.len().min(MOST_OCTETS)]
+    &octets[..MOST_OCTETS.min(octets.len())]
 }
 
-// The mark of the strip that a memory holds.
-fn mark_of(octets: &[u8]) -> u32
-    ensures { result ≡ strip_mark octets.now }
+// Where the first used octet stands that has a one bit. Refused with 10 when no used octet has any, and only then.
+fn first_set(octets: &[u8]) -> Result<usize, Refusal>
+    ensures { MatchResult result (FirstSet (used octets.now)) (λ e. (number e ≡ 10) × AllClear (used octets.now)) }
 {
-    let mut mark = 0;
-    for octet in used_octets(octets) {
-        mark += octet.count_zeros();
-    }
-    mark
-}
-
-// The raises left of the strip that a memory holds.
-fn left_of(octets: &[u8]) -> u32
-    ensures { result ≡ strip_left octets.now }
-{
-    let mut left = 0;
-    for octet in used_octets(octets) {
-        left += octet.count_ones();
-    }
-    left
+    used_octets(octets)
+        .iter()
+        .position(|octet| *octet > 0)
+        .ok_or(Refusal::NoRaiseLeft)
 }
 
 // The one write of a raise: clears the lowest one bit of the first used octet that has any, if the write goes through.
 // Refused with 10 when no used octet has a one bit, and only then; nothing changes then.
+// `written` stays a parameter: a raise and a torn raise search and refuse alike, and two functions would say that twice.
 fn clear_lowest(octets: &mut [u8], written: bool) -> Result<(), Refusal>
-    ensures { MatchResult result (λ _. (0 < strip_left octets.old) × (octets.new ≡ raised_by (if written then 1 else 0) octets.old)) (λ e. (number e ≡ 10) × (strip_left octets.old ≡ 0) × (octets.new ≡ octets.old)) }
+    ensures { Granted strip_left octets.old octets.new (octets.new ≡ raised_by (if written then 1 else 0) octets.old) result }
 {
-    let Some(place) = first_set(used_octets(octets)) else {
-        return Err(Refusal::NoRaiseLeft);
-    };
+    let place = first_set(octets)?;
     let octet = octets[place];
     if written {
         octets[place] = without_lowest(octet);
     }
     Ok(())
-}
-
-// Where the first octet stands that has a one bit.
-fn first_set(octets: &[u8]) -> Option<usize>
-    ensures { MatchOption result (AllClear octets.now) (FirstSet octets.now) }
-{
-    for (i, octet) in octets.iter().enumerate() {
-        if *octet > 0 {
-            return Some(i);
-        }
-    }
-    None
 }
 
 // An octet with its lowest one bit cleared.

@@ -1,8 +1,7 @@
 -- Hexadecimal digits pair by pair.
-use Rattle.std.proofs.Common.{◌≡◌, ℕ, zero, suc, ◌+◌, ◌*◌, ◌/◌, ◌%◌, ◌<◌, List, [], ◌∷◌, ◌++◌, length, get_or, sym, refl, ◌∙◌, subst, append_assoc, append-nil, arith, length-append}
+use Rattle.std.proofs.Common.{◌≡◌, ℕ, zero, suc, ◌+◌, ◌*◌, ◌/◌, ◌%◌, ◌<◌, List, [], ◌∷◌, ◌++◌, length, get_or, sym, refl, ◌∙◌, subst, append_assoc, append-nil, arith}
 use Rattle.std.specs.Char.{digit_value}
 use Rattle.std.specs.List.{AllByRecursion as All}
-use Rattle.std.proofs.lemmas.List.{get_or_append_left}
 use Rattle.std.proofs.lemmas.Str.{digit_value-digit_char}
 use Rattle.texts.specs.Dump.{hex_digits}
 use Rattle.texts.specs.Hex.{Hex, HexOf, unhex}
@@ -16,14 +15,6 @@ pub record Left (digits octets rest : List ℕ) : Type 0 where
 -- no pair is read
 pub left_all : (digits octets rest : List ℕ) → octets ≡ [] → rest ≡ digits → Hex (length digits) digits → length digits % 2 ≡ 0 → Left digits octets rest
 left_all digits octets rest none all good even = rw (none, all) (record { good = good; even = even; joined = refl })
-
-module _ (digits octets rest pair after : List ℕ) (left : Left digits octets rest) (split : rest ≡ pair ++ after) (two : length pair ≡ 2) where
-  -- the digits of the next pair are good
-  pub pair_good : (i : ℕ) → i < 2 → digit_value (get_or pair i 0) < 16
-  pair_good i h =
-      let whole = subst (λ r. Hex (length r) r) split left.good in
-      let inside : i < length (pair ++ after) = omega (arith, length-append pair after) in
-      subst (λ b. digit_value b < 16) (get_or_append_left pair after 0 i (omega arith)) (whole i inside)
 
 -- one more pair
 pub left_more : (digits octets rest pair after : List ℕ) → Left digits octets rest → rest ≡ pair ++ after → length pair ≡ 2 → Left digits (octets ++ (16 * digit_value (get_or pair 0 0) + digit_value (get_or pair 1 0)) ∷ []) after

@@ -1,11 +1,10 @@
 use Rattle.std.proofs.Common.{map, string_bytes, ap}
-use Rattle.scenario.proofs.Rows.{row_none}
+use Rattle.texts.proofs.Exits.{exit}
 use Rattle.scenario.proofs.read.read_words.Goals as goal
 
-pub returns-in_default : goal.returns-in_default
-returns-in_default c = row_none string_bytes c.args.words.now c.in_default.ensures.cases
-
-pub returns-in-None : goal.returns-in-None
-returns-in-None c =
+pub returns-in_err-parse : goal.returns-in_err-parse
+returns-in_err-parse c =
     let cut = c.in-Some.ensures.cases in
-    (c.as_str.result.now, map string_bytes c.in-Some.rest.now, rw c.as_str.ensures.value (ap (map string_bytes) cut.0), c.in-None.ensures)
+    let unknown = c.in_err-parse.ensures.value in
+    exit _ _ _ _ c.from_residual.ensures.1
+    (rw unknown.0 (c.as_str.result.now, map string_bytes c.in-Some.rest.now, rw c.as_str.ensures.value (ap (map string_bytes) cut.0), unknown.1))

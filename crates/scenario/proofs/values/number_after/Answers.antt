@@ -4,9 +4,9 @@ use Rattle.scenario.specs.Grammar.{command_word}
 use Rattle.scenario.proofs.Counts.{reads_number}
 use Rattle.scenario.proofs.values.number_after.Goals as goal
 
-pub returns-in-Some : goal.returns-in-Some
-returns-in-Some c =
-    let only = c.in-Some.ensures in
+pub returns : goal.returns
+returns c =
+    let only = c.in_ok-only_word.ensures in
     MatchResult-weaker c.number.result c.number.ensures
-    (λ x p. (c.in-Some.word.now, ap (λ r. command_word c.args.command ∷ r) only, p))
-    (λ e h. h _ (reads_number c.args.command _ c.in-Some.word.now c.requires only))
+    (λ x p. (c.in_ok-only_word.field-0.now, ap (λ r. command_word c.args.command ∷ r) only, p))
+    (λ e h. h _ (reads_number c.args.command _ c.in_ok-only_word.field-0.now c.requires only))

@@ -1,5 +1,5 @@
-use Rattle.strip.proofs.Clearing.{take_min}
+use Rattle.std.proofs.lemmas.List.{take_min}
 use Rattle.strip.proofs.strip.used_octets.Goals as goal
 
-pub returns : goal.returns
-returns c = take_min c.min.result c.args.octets.now c.min.ensures
+pub returns-clause-front : goal.returns-clause-front
+returns-clause-front c = rw c.min.ensures (take_min 4096 c.args.octets.now)

@@ -7,7 +7,7 @@ use Rattle.sprout.proofs.engine.Sprout.initialise_once.Goals as goal
 
 pub returns : goal.returns
 returns c =
-    let made = c.round.ensures in
+    let made = c.at.ensures in
     let from : Registers = held_in 40 c.args.self.now.pair in
     parts_same _ _ _ _ _
     (once _ from _ c.initialised-self.ensures

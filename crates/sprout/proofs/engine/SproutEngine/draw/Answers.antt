@@ -14,7 +14,7 @@ pub returns : goal.returns
 returns c =
     let from : SproutState = state_of c.args.self.now in
     let one : min c.args.n 1 ≡ 1 = omega arith in
-    let made = c.round.ensures in
+    let made = c.at.ensures in
     record {
       count = omega (arith, c.clocked-drawn.ensures.count);
       drawn = one_drawn from _ _ _ one c.clocked-drawn.ensures.drawn;
