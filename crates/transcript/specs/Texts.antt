@@ -54,7 +54,7 @@ outcome_text None out = codes "nothing came: no frame was sent there"
 outcome_text (Some a) out = receiver_answer_text a out
 
 -- a step of a receiver
-abbrev pub receiver_text : ReceiverStep → List ℕ
+unfoldable pub receiver_text : ReceiverStep → List ℕ
 receiver_text s = outcome_text s.answer (vec_items s.out)
 
 -- the totals of a run

@@ -129,7 +129,7 @@ impl fmt::Display for Plain<'_> {
 #[derive(Clone, Copy)]
 pub struct ReceiverText<'a>(pub &'a ReceiverStep);
 
-#[tactic(auto, unfolding(crate::specs::Texts::receiver_answer_text))]
+#[tactic(auto, unfolding(crate::specs::Texts::receiver_text, crate::specs::Texts::receiver_answer_text))]
 impl fmt::Display for ReceiverText<'_> {
     ghost output = { λ x. Some (receiver_text x.0.now) };
 
