@@ -11,28 +11,19 @@ use std::io::Read;
 use std::process::ExitCode;
 use std::{env, fs};
 
-// One line as text. One that is no UTF-8 keeps its place, as a line that cannot be read.
+// One line as text, without its end. One that is no UTF-8 keeps its place, as a line that cannot be read.
 fn line_text(heap: Global, octets: &[u8]) -> Result<String, AllocError> {
-    match std::str::from_utf8(octets) {
-        Ok(text) => String::from_str(heap, text.strip_suffix('\r').unwrap_or(text)),
-        Err(_) => String::from_str(heap, "(not UTF-8)"),
-    }
+    let text = std::str::from_utf8(octets).unwrap_or("(not UTF-8)");
+    let text = text.strip_suffix('\n').unwrap_or(text);
+    String::from_str(heap, text.strip_suffix('\r').unwrap_or(text))
 }
 
 // The lines of a text. Each ends with a newline; the last one may have none.
 fn lines_of(heap: Global, octets: &[u8]) -> Result<Vec<String>, AllocError> {
-    let mut lines = Vec::new(heap);
-    let mut start = 0;
-    for end in 0..octets.len() {
-        if octets[end] == b'\n' && start <= end {
-            lines.push(line_text(heap, &octets[start..end])?)?;
-            start = end + 1;
-        }
-    }
-    if start < octets.len() {
-        lines.push(line_text(heap, &octets[start..octets.len()])?)?;
-    }
-    Ok(lines)
+    octets
+        .split_inclusive(|octet| *octet == b'\n')
+        .map(|line| line_text(heap, line))
+        .try_collect(heap)
 }
 
 fn octets_of(rt: &HostRuntime, name: &str) -> anyhow::Result<Vec<u8>> {
@@ -55,10 +46,7 @@ fn show(rt: &HostRuntime, name: &str) -> anyhow::Result<usize> {
 }
 
 fn names_given(rt: &HostRuntime) -> anyhow::Result<Vec<String>> {
-    let mut names = Vec::new(rt.alloc());
-    for name in env::args(rt)?.skip(1) {
-        names.push(name)?;
-    }
+    let mut names: Vec<String> = env::args(rt)?.skip(1).collect(rt.alloc())?;
     if names.is_empty() {
         names.push(String::from_str(rt.alloc(), "-")?)?;
     }

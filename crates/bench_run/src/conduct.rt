@@ -5,11 +5,9 @@ ghost use Rattle.bench_run.specs.Replies.{Replied, Written};
 use crate::note::Note;
 use crate::noting::{count_bad, note_lines};
 use crate::reply::Reply;
-use crate::rows::rows_text;
-use runs::calls::{ReceiverStep, SenderStep};
+use crate::rows::{Rows, Steps};
 use std::alloc::{AllocError, Global};
 use transcript::counts::tally;
-use transcript::text::tally_text;
 use trial::perform::perform;
 use trial::plan::Plan;
 
@@ -18,13 +16,16 @@ fn written(
     heap: Global,
     lines: &[String],
     notes: &[Note],
-    calls: &[SenderStep],
-    receipts: &[ReceiverStep],
+    steps: Steps<'_>,
 ) -> Result<Reply, AllocError>
-    ensures { IfOk result (λ x. Written lines.now notes.now calls.now receipts.now x) }
+    ensures { IfOk result (λ x. Written lines.now notes.now steps.entry.calls.now steps.entry.receipts.now x) }
 {
-    let rows = rows_text(heap, lines, notes, calls, receipts)?;
-    let totals = tally_text(heap, &tally(calls, receipts))?;
+    let rows = Rows {
+        lines,
+        notes,
+        steps,
+    };
+    let totals = tally(steps.calls, steps.receipts);
     Ok(Reply {
         text: format!(in heap; "{rows}{totals}\n")?,
         bad_lines: count_bad(notes),
@@ -51,11 +52,9 @@ pub fn conduct(heap: Global, lines: &[String]) -> Result<Reply, AllocError>
         calls.as_mut_slice(),
         receipts.as_mut_slice(),
     );
-    written(
-        heap,
-        lines,
-        notes.as_slice(),
-        calls.as_slice(),
-        receipts.as_slice(),
-    )
+    let steps = Steps {
+        calls: calls.as_slice(),
+        receipts: receipts.as_slice(),
+    };
+    written(heap, lines, notes.as_slice(), steps)
 }

@@ -37,10 +37,10 @@ frames sent 0, opened 0, refused 0; keystream octets used 0, none twice
 #[test]
 fn a_bad_line_is_named_and_the_others_are_made(rt: HostRuntime) -> Result<(), Fail> {
     let heap = rt.alloc();
-    let mut lines = Vec::new(heap);
-    for line in SCENARIO.lines() {
-        lines.push(String::from_str(heap, line)?)?;
-    }
+    let lines: Vec<String> = SCENARIO
+        .lines()
+        .map(|line| String::from_str(heap, line))
+        .try_collect(heap)?;
     let reply = conduct(heap, lines.as_slice())?;
     assert_eq!(rt; reply.bad_lines, 9);
     assert_eq!(rt; reply.text.as_str(), TRANSCRIPT);

@@ -4,26 +4,25 @@ ghost use Rattle.stream.specs.Ciphers.{load_refusal};
 ghost use Rattle.speed.specs.Answers.{told, Covers};
 ghost use Rattle.speed.specs.Numbered.{cipher_of};
 
+use crate::answer::told;
 use grain128::engines::{Grain128, Grain128a, Grain128ax32, Grain128x32};
 use sprout::engine::Sprout;
 use stream::draws::cover;
 use stream::engine::Engine;
 
 // Loads an engine and covers octets in place. Answers 0, or the number of the load's refusal; the octets are left as they were then.
-fn covered<E: Engine + Drop>(engine: E, key: &[u8], iv: &[u8], octets: &mut [u8]) -> u32
+fn covered<E: Engine + Drop>(mut engine: E, key: &[u8], iv: &[u8], octets: &mut [u8]) -> u32
     ensures answer { result ≡ told (load_refusal E.Engine.cipher key.now iv.now) }
     ensures octets { Covers E.Engine.cipher key.now iv.now octets.old octets.new result }
 {
-    let mut engine = engine;
-    match engine.load(key, iv) {
-        Ok(()) => {
-            cover(&mut engine, octets);
-            0
-        }
-        Err(refusal) => refusal.number(),
+    let loaded = engine.load(key, iv);
+    if loaded.is_ok() {
+        cover(&mut engine, octets);
     }
+    told(loaded)
 }
 
+// Numbers stand for the ciphers and for the refusals, since a C program calls it.
 /// Covers octets in place with the keystream of a key and an IV, by the engine of this number: 0 Grain-128 and 1 Grain-128a at
 /// stride 32, 2 and 3 the same at stride 1, any other Sprout.
 /// Answers 0, or 1, 2 or 3 where the load is refused; the octets are left as they were then.

@@ -19,13 +19,12 @@ fn send_frames<E: Engine, S: MarkStore>(
 ) -> usize
     ensures { result ≤ length out.old }
 {
-    let room = out.len();
     let mut written = 0;
     for piece in plain.chunks(size.max(1)) {
-        match sender.send(piece, &mut out[written..room]) {
-            Ok(octets) => written += octets,
-            Err(_) => return written,
-        }
+        let Ok(octets) = sender.send(piece, &mut out[written..]) else {
+            return written;
+        };
+        written += octets;
     }
     written
 }
@@ -40,13 +39,12 @@ fn receive_frames<E: Reversible>(
 ) -> usize
     ensures { result ≤ length out.old }
 {
-    let room = out.len();
     let mut written = 0;
     for frame in frames.chunks(size.min(1024) + 10) {
-        match receiver.receive(frame, &mut out[written..room]) {
-            Ok(received) => written += received.length as usize,
-            Err(_) => return written,
-        }
+        let Ok(received) = receiver.receive(frame, &mut out[written..]) else {
+            return written;
+        };
+        written += received.length as usize;
     }
     written
 }

@@ -1,9 +1,8 @@
 -- The steps of a run and its totals as text, each a line without its end.
 use Rattle.std.specs.Prelude.{ℕ, List, ◌++◌, take, drop, Some, None, vec_items, codes, decimal, Option}
 use Rattle.std.specs.Fmt.{signed_decimal}
-use Rattle.stream.specs.Refusals.{number}
+use Rattle.stream.specs.Refusals.{number, reason_text}
 use Rattle.stream.specs.declared.refusal.Refusal.{Refusal}
-use Rattle.stream.specs.declared.refusal.Refusal.TheVariants.{KeyLength, LabelLength, ForbiddenBit, BadAllowance, PlainLength, BadFrame, ShortBuffer, NoRaiseLeft, AboveAllowance, NeverPaired}
 use Rattle.receiver.specs.declared.Received.{Received}
 use Rattle.runs.specs.declared.calls.SenderAnswer.{SenderAnswer}
 use Rattle.runs.specs.declared.calls.SenderAnswer.TheVariants.{Opened, Torn, Sent, Rested, Refused, NotAdmitted}
@@ -14,19 +13,7 @@ use Rattle.runs.specs.declared.calls.ReceiverStep.{ReceiverStep}
 use Rattle.texts.specs.Dump.{hex_digits}
 use Rattle.transcript.specs.declared.totals.Tally.{Tally}
 
--- why a call was refused
-unfoldable pub reason_text : Refusal → List ℕ
-reason_text KeyLength = codes "the key's length is not the cipher's"
-reason_text LabelLength = codes "the label's length is not the cipher's"
-reason_text ForbiddenBit = codes "the IV has a bit that must be 0 and is not"
-reason_text BadAllowance = codes "the allowance is 0 or above the ceiling"
-reason_text PlainLength = codes "the plain has 0 or more than 1,024 octets"
-reason_text BadFrame = codes "no frame"
-reason_text ShortBuffer = codes "the buffer is too short"
-reason_text NoRaiseLeft = codes "the store has no raise left"
-reason_text AboveAllowance = codes "place plus length is above the allowance"
-reason_text NeverPaired = codes "never paired"
-
+-- a refusal: its number and its reason
 unfoldable pub refused_text : Refusal → List ℕ
 refused_text e = codes "refused " ++ (decimal (number e) ++ (codes ": " ++ reason_text e))
 
@@ -43,6 +30,7 @@ sender_answer_text Rested out = codes "at rest"
 sender_answer_text (Refused e) out = refused_text e
 sender_answer_text NotAdmitted out = codes "not made: the build does not admit it here"
 
+-- a step of a sender: what the call answered, and the numbers of the store after it
 unfoldable pub sender_text : SenderStep → List ℕ
 sender_text s =
     sender_answer_text s.answer (vec_items s.out)
@@ -54,6 +42,7 @@ plain_text r out =
     codes "plain " ++ (hex_digits (take r.length out)
     ++ (codes ", length " ++ (decimal r.length ++ (codes ", distance " ++ signed_decimal r.distance))))
 
+-- what a call on a receiver answered, with the buffer as it was left
 unfoldable pub receiver_answer_text : ReceiverAnswer → List ℕ → List ℕ
 receiver_answer_text Paired out = codes "paired"
 receiver_answer_text (Uncovered r) out = plain_text r out
@@ -64,9 +53,11 @@ abbrev pub outcome_text : Option ReceiverAnswer → List ℕ → List ℕ
 outcome_text None out = codes "nothing came: no frame was sent there"
 outcome_text (Some a) out = receiver_answer_text a out
 
-abbrev pub receiver_text : ReceiverStep → List ℕ
+-- a step of a receiver
+unfoldable pub receiver_text : ReceiverStep → List ℕ
 receiver_text s = outcome_text s.answer (vec_items s.out)
 
+-- the totals of a run
 unfoldable pub tally_text : Tally → List ℕ
 tally_text t =
     codes "frames sent " ++ (decimal t.sent

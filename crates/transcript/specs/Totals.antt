@@ -17,12 +17,14 @@ sent_frame s = is_some (frame_in s.answer (vec_items s.out))
 abbrev pub octets_used : SenderStep → ℕ
 octets_used s = octets_sent s.answer - 10
 
+-- an answer of a receiver that opened what came
 abbrev pub is_uncovered : Option ReceiverAnswer → Bool
 is_uncovered None = false
 is_uncovered (Some Paired) = false
 is_uncovered (Some (Uncovered r)) = true
 is_uncovered (Some (Declined e)) = false
 
+-- an answer of a receiver that refused the call
 abbrev pub is_declined : Option ReceiverAnswer → Bool
 is_declined None = false
 is_declined (Some Paired) = false
@@ -31,7 +33,7 @@ is_declined (Some (Declined e)) = true
 
 -- the call hands octets to the receiver
 abbrev pub hands_octets : ReceiverCall → Bool
-hands_octets (Pair key label allowance) = false
+hands_octets (Pair p) = false
 hands_octets (Receive octets) = true
 hands_octets (Deliver call change) = true
 
@@ -43,6 +45,7 @@ opened_frame s = is_uncovered s.answer
 abbrev pub refused_frame : ReceiverStep → Bool
 refused_frame s = hands_octets s.call && is_declined s.answer
 
+-- the totals of all steps of a run
 abbrev pub tally_of : List SenderStep → List ReceiverStep → Tally
 tally_of calls receipts = record {
   sent = count_by sent_frame calls;

@@ -1,5 +1,5 @@
 //! The totals of a run, counted from its steps.
-ghost use Rattle.std.specs.Prelude.{◌≡◌, sum_by, count_by};
+ghost use Rattle.std.specs.Prelude.{◌≡◌};
 ghost use Rattle.transcript.specs.Totals.{sent_frame, opened_frame, refused_frame, octets_used, tally_of};
 
 use crate::HEADER_OCTETS;
@@ -21,12 +21,8 @@ fn opened_frame(step: &ReceiverStep) -> bool
 fn refused_frame(step: &ReceiverStep) -> bool
     ensures { result ≡ refused_frame step.now }
 {
-    match step.call {
-        ReceiverCall::Pair { .. } => false,
-        ReceiverCall::Receive { .. } | ReceiverCall::Deliver { .. } => {
-            matches!(step.answer, Some(ReceiverAnswer::Declined(_)))
-        }
-    }
+    !matches!(step.call, ReceiverCall::Pair(_))
+        && matches!(step.answer, Some(ReceiverAnswer::Declined(_)))
 }
 
 fn octets_used(step: &SenderStep) -> usize
@@ -38,52 +34,6 @@ fn octets_used(step: &SenderStep) -> usize
     }
 }
 
-fn count_sent(calls: &[SenderStep]) -> usize
-    ensures { result ≡ count_by sent_frame calls.now }
-{
-    let mut count = 0;
-    for step in calls {
-        if sent_frame(step) {
-            count += 1;
-        }
-    }
-    count
-}
-
-fn count_opened(receipts: &[ReceiverStep]) -> usize
-    ensures { result ≡ count_by opened_frame receipts.now }
-{
-    let mut count = 0;
-    for step in receipts {
-        if opened_frame(step) {
-            count += 1;
-        }
-    }
-    count
-}
-
-fn count_refused(receipts: &[ReceiverStep]) -> usize
-    ensures { result ≡ count_by refused_frame receipts.now }
-{
-    let mut count = 0;
-    for step in receipts {
-        if refused_frame(step) {
-            count += 1;
-        }
-    }
-    count
-}
-
-fn sum_octets(calls: &[SenderStep]) -> u128
-    ensures { result ≡ sum_by octets_used calls.now }
-{
-    let mut sum = 0;
-    for step in calls {
-        sum += octets_used(step) as u128;
-    }
-    sum
-}
-
 /// The totals of a run from its steps, as they stand once they were made.
 ///
 /// A frame counts as sent where the answer is `Sent`, as opened where it is `Uncovered`, and as refused where a `Receive` or a
@@ -93,9 +43,9 @@ pub fn tally(calls: &[SenderStep], receipts: &[ReceiverStep]) -> Tally
     ensures { result ≡ tally_of calls.now receipts.now }
 {
     Tally {
-        sent: count_sent(calls),
-        opened: count_opened(receipts),
-        refused: count_refused(receipts),
-        octets: sum_octets(calls),
+        sent: calls.iter().filter(|step| sent_frame(step)).count(),
+        opened: receipts.iter().filter(|step| opened_frame(step)).count(),
+        refused: receipts.iter().filter(|step| refused_frame(step)).count(),
+        octets: calls.iter().map(|step| octets_used(step) as u128).sum(),
     }
 }

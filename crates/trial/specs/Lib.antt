@@ -1,3 +1,4 @@
+pub mod Messages
 pub mod Performed
 pub mod Plans
 pub mod Named

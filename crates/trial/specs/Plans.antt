@@ -52,9 +52,9 @@ settings s =
       sender = s.sender;
       receiver = s.receiver;
       memory = holding s.memory;
-      key = vec_items s.key;
-      label = vec_items s.label;
-      allowance = s.allowance;
+      key = vec_items s.pairing.key;
+      label = vec_items s.pairing.label;
+      allowance = s.pairing.allowance;
       room = s.room;
     }
 
@@ -66,7 +66,7 @@ pub data Asked : Type 0 where
   delivering : ℕ → List ℕ → Asked
 
 abbrev pub asked : ReceiverCall → Asked
-asked (PairCall key label allowance) = pairing (vec_items key) (vec_items label) allowance
+asked (PairCall p) = pairing (vec_items p.key) (vec_items p.label) p.allowance
 asked (Receive v) = handing (vec_items v)
 asked (DeliverCall call change) = delivering call (vec_items change)
 
@@ -178,11 +178,11 @@ module _ (p : Plan) (q : Plan) (r : Planned) where
   Does (Label v) = SetsLabel (vec_items v)
   Does (Allowance n) = SetsAllowance n
   Does (Room n) = SetsRoom n
-  Does Open = CallsOnly p q r (opening (vec_items p.setup.key) (vec_items p.setup.label) p.setup.allowance)
+  Does Open = CallsOnly p q r (opening (vec_items p.setup.pairing.key) (vec_items p.setup.pairing.label) p.setup.pairing.allowance)
   Does Close = CallsOnly p q r closing
   Does Cut = CallsOnly p q r power_cut
-  Does Pair = Receipts p q r (pairing (vec_items p.setup.key) (vec_items p.setup.label) p.setup.allowance) 0
-  Does (TornOpen writes junk) = CallsOnly p q r (torn_opening (vec_items p.setup.key) (vec_items p.setup.label) p.setup.allowance writes junk)
+  Does Pair = Receipts p q r (pairing (vec_items p.setup.pairing.key) (vec_items p.setup.pairing.label) p.setup.pairing.allowance) 0
+  Does (TornOpen writes junk) = CallsOnly p q r (torn_opening (vec_items p.setup.pairing.key) (vec_items p.setup.pairing.label) p.setup.pairing.allowance writes junk)
   Does (Send v) = Sends p q r (vec_items v) p.setup.room
   Does (Deliver n) = Sent p n × Receipts p q r (delivering (sent_by p n) []) p.setup.room
   Does (Alter n at v) = Sent p n × Receipts p q r (delivering (sent_by p n) (replicate at 0 ++ vec_items v)) p.setup.room

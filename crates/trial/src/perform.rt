@@ -35,6 +35,7 @@ fn over_memory<E: Engine + Drop, F: Reversible + Drop>(
 }
 
 // Over an engine for the sender, and the receiver's engine by its name.
+// The choice by name stands here and in `perform`, once for each end: a choice that took what to do next would be a trait with an impl for each end.
 fn over_receiver<E: Engine + Drop>(
     engine: E,
     receiver: CipherName,

@@ -1,6 +1,12 @@
 //! What the lines of a scenario ask for.
+ghost use Rattle.std.specs.Prelude.{◌≡◌, Some};
+ghost use Rattle.trial.specs.Messages.{plan_fault_text};
+ghost use Rattle.trial.specs.declared.plan.PlanFault.TheVariants.{NoMemory};
+
 use crate::memory::Memory;
-use runs::calls::{ReceiverStep, SenderStep};
+use runs::calls::{Pairing, ReceiverStep, SenderStep};
+use std::alloc::{AllocError, AllocFailed};
+use std::fmt;
 use texts::names::CipherName;
 
 /// What the lines set, each until a later line sets it again.
@@ -12,12 +18,8 @@ pub struct Setup {
     pub receiver: CipherName,
     /// The memory of the store.
     pub memory: Memory,
-    /// The key of the opens and pairs to come.
-    pub key: Vec<u8>,
-    /// The label of the opens and pairs to come.
-    pub label: Vec<u8>,
-    /// The allowance of the opens and pairs to come.
-    pub allowance: u32,
+    /// The key, the label and the allowance of the opens and pairs to come.
+    pub pairing: Pairing,
     /// The size of the buffers that the sends and deliveries to come are lent.
     pub room: u32,
 }
@@ -62,4 +64,34 @@ pub enum PlanFault {
     NoSuchSend,
     /// There was no memory.
     NoMemory,
+}
+
+// By hand, since clauses name the fault that a `?` makes.
+impl From<AllocError> for PlanFault {
+    ghost from_gives = { λ _ r. r ≡ NoMemory };
+
+    fn from(_e: AllocError) -> PlanFault {
+        PlanFault::NoMemory
+    }
+}
+
+impl<T: Drop> From<AllocFailed<T>> for PlanFault {
+    ghost from_gives = { λ _ r. r ≡ NoMemory };
+
+    fn from(_e: AllocFailed<T>) -> PlanFault {
+        PlanFault::NoMemory
+    }
+}
+
+/// Why a plan cannot take a line, in a few words.
+impl fmt::Display for PlanFault {
+    ghost output = { λ x. Some (plan_fault_text x) };
+
+    fn fmt<W: fmt::Write>(&self, f: &mut fmt::Formatter<W>) -> fmt::Result {
+        f.write_str(match self {
+            PlanFault::Late => "engines and memory are set before the first step",
+            PlanFault::NoSuchSend => "no line above sends a frame of that number",
+            PlanFault::NoMemory => "no memory",
+        })
+    }
 }

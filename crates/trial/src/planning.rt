@@ -1,66 +1,17 @@
 //! A plan, line by line.
-ghost use Rattle.std.specs.Prelude.{◌≡◌, ◌+◌, ◌*◌, ◌<◌, ◌≤◌, [], ◌∷◌, ◌++◌, length, replicate, IfOk, MatchResult, slice_index};
-ghost use Rattle.histories.specs.Calls.{opening, sending, torn_opening};
+ghost use Rattle.std.specs.Prelude.{◌≡◌, length, IfOk, MatchResult};
 ghost use Rattle.runs.specs.Readings.{call_of};
-ghost use Rattle.trial.specs.Plans.{BlankPlan, Calls, CallsOnly, Does, NotTaken, OutOfMemory, Receipts, Sends, Sent, SetsAllowance, SetsKey, SetsLabel, SetsMemory, SetsReceiver, SetsRoom, SetsSender, TooLate, Unstarted, asked, delivering, handing, holding, pairing as pairing-with, sent_by, words_in};
-ghost use Rattle.trial.specs.declared.plan.PlanFault.TheVariants.{Late, NoMemory, NoSuchSend};
+ghost use Rattle.runs.specs.declared.calls.SenderCall.TheVariants.{Open, TornOpen};
+ghost use Rattle.runs.specs.declared.calls.ReceiverCall.TheVariants.{Pair};
+ghost use Rattle.trial.specs.Plans.{BlankPlan, Calls, CallsOnly, Does, NotTaken, OutOfMemory, Receipts, Sends, Sent, SetsAllowance, SetsKey, SetsLabel, SetsMemory, SetsReceiver, SetsRoom, SetsSender, TooLate, Unstarted, asked, delivering, handing, holding, sent_by};
+ghost use Rattle.trial.specs.declared.plan.PlanFault.TheVariants.{Late, NoSuchSend};
 
 use crate::memory::Memory;
 use crate::plan::{Plan, PlanFault, Planned, Setup};
-use runs::calls::{ReceiverCall, ReceiverStep, SenderCall, SenderStep};
+use runs::calls::{Pairing, ReceiverCall, ReceiverStep, SenderCall, SenderStep};
 use scenario::line::Line;
-use std::alloc::{AllocError, AllocFailed, Global};
+use std::alloc::{AllocError, Global};
 use texts::names::CipherName;
-
-impl From<AllocError> for PlanFault {
-    ghost from_gives = { λ _ r. r ≡ NoMemory };
-
-    fn from(_e: AllocError) -> PlanFault {
-        PlanFault::NoMemory
-    }
-}
-
-impl<T: Drop> From<AllocFailed<T>> for PlanFault {
-    ghost from_gives = { λ _ r. r ≡ NoMemory };
-
-    fn from(_e: AllocFailed<T>) -> PlanFault {
-        PlanFault::NoMemory
-    }
-}
-
-// A list of so many equal numbers.
-fn octets_of(heap: Global, octet: u8, count: u32) -> Result<Vec<u8>, AllocError>
-    ensures { IfOk result (λ v. v.items ≡ replicate count octet) }
-{
-    vec![in heap; octet; count as usize]
-}
-
-fn blank_words(heap: Global, count: u32) -> Result<Vec<u32>, AllocError>
-    ensures { IfOk result (λ v. v.items ≡ replicate count 4294967295) }
-{
-    vec![in heap; 0xffff_ffffu32; count as usize]
-}
-
-// The word that four octets write, the most significant first.
-fn word(octets: &[u8], at: usize) -> u32
-    requires { at + 4 ≤ length octets.now }
-    ensures { result ≡ slice_index octets.now (at + 3) + 256 * (slice_index octets.now (at + 2) + 256 * (slice_index octets.now (at + 1) + 256 * slice_index octets.now at)) }
-{
-    let high = 256 * octets[at] as u32 + octets[at + 1] as u32;
-    let low = 256 * octets[at + 2] as u32 + octets[at + 3] as u32;
-    65536 * high + low
-}
-
-// The words that octets write, four to a word.
-fn column_words(heap: Global, octets: &[u8]) -> Result<Vec<u32>, AllocError>
-    ensures { IfOk result (λ v. v.items ≡ words_in octets.now) }
-{
-    let mut words = Vec::new(heap);
-    for i in 0..octets.len() / 4 {
-        words.push(word(octets, 4 * i))?;
-    }
-    Ok(words)
-}
 
 impl Plan {
     /// A plan that asks for no step: `grain128x32` at both ends, a fresh strip of 4 octets, neither key nor label, an allowance of 1,024 octets, and room for any frame.
@@ -71,10 +22,12 @@ impl Plan {
             setup: Setup {
                 sender: CipherName::Grain128Wide,
                 receiver: CipherName::Grain128Wide,
-                memory: Memory::Strip(octets_of(heap, 0xff, 4)?),
-                key: Vec::new(heap),
-                label: Vec::new(heap),
-                allowance: 1024,
+                memory: Memory::fresh_strip(heap, 4)?,
+                pairing: Pairing {
+                    key: Vec::new(heap),
+                    label: Vec::new(heap),
+                    allowance: 1024,
+                },
                 room: 1034,
             },
             calls: Vec::new(heap),
@@ -94,83 +47,81 @@ impl Plan {
         }
     }
 
-    // Adds a call on the sender with the buffer that it is lent, and answers its index.
-    fn push_call(&mut self, call: SenderCall, out: Vec<u8>) -> Result<usize, PlanFault>
+    // Adds a call on the sender with a buffer of so many octets, and answers its index.
+    fn push_call(&mut self, heap: Global, call: SenderCall, room: u32) -> Result<usize, PlanFault>
         ensures { MatchResult result
-            (λ i. Calls self.old self.new (call_of call (length out.items)) (length out.items)
+            (λ i. Calls self.old self.new (call_of call room) room
             × (self.new.sends ≡ self.old.sends)
             × (i ≡ length self.old.calls.items))
             (λ e. OutOfMemory self.old self.new e) }
     {
         let index = self.calls.len();
+        let out = vec![in heap; 0; room as usize]?;
         self.calls.push(SenderStep::new(call, out))?;
         Ok(index)
     }
 
+    // Adds a call on the sender that is no send: its buffer is empty.
     fn add_call(&mut self, heap: Global, call: SenderCall) -> Result<Planned, PlanFault>
         ensures { MatchResult result
             (λ x. CallsOnly self.old self.new x (call_of call 0))
             (λ e. OutOfMemory self.old self.new e) }
     {
-        let index = self.push_call(call, Vec::new(heap))?;
-        Ok(Planned::Call(index))
+        Ok(Planned::Call(self.push_call(heap, call, 0)?))
     }
 
-    fn add_receipt(&mut self, call: ReceiverCall, out: Vec<u8>) -> Result<Planned, PlanFault>
+    // Adds a call on the receiver with a buffer of so many octets.
+    fn add_receipt(
+        &mut self,
+        heap: Global,
+        call: ReceiverCall,
+        room: u32,
+    ) -> Result<Planned, PlanFault>
         ensures { MatchResult result
-            (λ x. Receipts self.old self.new x (asked call) (length out.items))
+            (λ x. Receipts self.old self.new x (asked call) room)
             (λ e. OutOfMemory self.old self.new e) }
     {
         let index = self.receipts.len();
+        let out = vec![in heap; 0; room as usize]?;
         self.receipts.push(ReceiverStep::new(call, out))?;
         Ok(Planned::Receipt(index))
     }
 
-    // The key, the label and the allowance that are set.
-    fn pairing(&self, heap: Global) -> Result<(Vec<u8>, Vec<u8>, u32), AllocError>
-        ensures { IfOk result (λ p. (p.0.items ≡ self.now.setup.key.items)
-            × (p.1.items ≡ self.now.setup.label.items)
-            × (p.2 ≡ self.now.setup.allowance)) }
+    // A copy of the key, the label and the allowance that are set.
+    fn pairing(&self, heap: Global) -> Result<Pairing, AllocError>
+        ensures key { IfOk result (λ p. p.key.items ≡ self.now.setup.pairing.key.items) }
+        ensures label { IfOk result (λ p. p.label.items ≡ self.now.setup.pairing.label.items) }
+        ensures allowance { IfOk result (λ p. p.allowance ≡ self.now.setup.pairing.allowance) }
     {
-        let key = Vec::from_slice(heap, self.setup.key.as_slice())?;
-        let label = Vec::from_slice(heap, self.setup.label.as_slice())?;
-        Ok((key, label, self.setup.allowance))
+        let set = &self.setup.pairing;
+        Ok(Pairing {
+            key: set.key.clone()?,
+            label: set.label.clone()?,
+            allowance: set.allowance,
+        })
     }
 
     fn open(&mut self, heap: Global) -> Result<Planned, PlanFault>
         ensures { MatchResult result
-            (λ x. CallsOnly self.old self.new x
-            (opening self.old.setup.key.items self.old.setup.label.items self.old.setup.allowance))
+            (λ x. CallsOnly self.old self.new x (call_of (Open self.old.setup.pairing) 0))
             (λ e. OutOfMemory self.old self.new e) }
     {
-        let (key, label, allowance) = self.pairing(heap)?;
-        self.add_call(
-            heap,
-            SenderCall::Open {
-                key,
-                label,
-                allowance,
-            },
-        )
+        let pairing = self.pairing(heap)?;
+        self.add_call(heap, SenderCall::Open(pairing))
     }
 
-    fn torn_open(&mut self, heap: Global, writes: u32, junk: u32) -> Result<Planned, PlanFault>
+    fn torn_open(&mut self, heap: Global, writes_done: u32, junk: u32) -> Result<Planned, PlanFault>
         ensures { MatchResult result
-            (λ x. CallsOnly self.old self.new x
-            (torn_opening self.old.setup.key.items self.old.setup.label.items self.old.setup.allowance writes junk))
+            (λ x. CallsOnly self.old self.new x (call_of (TornOpen self.old.setup.pairing writes_done junk) 0))
             (λ e. OutOfMemory self.old self.new e) }
     {
-        let (key, label, allowance) = self.pairing(heap)?;
-        self.add_call(
-            heap,
-            SenderCall::TornOpen {
-                key,
-                label,
-                allowance,
-                writes_done: writes,
-                junk,
-            },
-        )
+        let pairing = self.pairing(heap)?;
+        let call = SenderCall::TornOpen {
+            pairing,
+            writes_done,
+            junk,
+        };
+        self.add_call(heap, call)
     }
 
     fn send(&mut self, heap: Global, plain: Vec<u8>) -> Result<Planned, PlanFault>
@@ -178,9 +129,9 @@ impl Plan {
             (λ x. Sends self.old self.new x plain.items self.old.setup.room)
             (λ e. OutOfMemory self.old self.new e) }
     {
-        let out = octets_of(heap, 0, self.setup.room)?;
         self.sends.reserve(1)?;
-        let call = self.push_call(SenderCall::Send { plain }, out)?;
+        let room = self.setup.room;
+        let call = self.push_call(heap, SenderCall::Send { plain }, room)?;
         self.sends.push_reserved(call);
         Ok(Planned::Send {
             call,
@@ -190,19 +141,11 @@ impl Plan {
 
     fn pair(&mut self, heap: Global) -> Result<Planned, PlanFault>
         ensures { MatchResult result
-            (λ x. Receipts self.old self.new x
-            (pairing-with self.old.setup.key.items self.old.setup.label.items self.old.setup.allowance) 0)
+            (λ x. Receipts self.old self.new x (asked (Pair self.old.setup.pairing)) 0)
             (λ e. OutOfMemory self.old self.new e) }
     {
-        let (key, label, allowance) = self.pairing(heap)?;
-        self.add_receipt(
-            ReceiverCall::Pair {
-                key,
-                label,
-                allowance,
-            },
-            Vec::new(heap),
-        )
+        let pairing = self.pairing(heap)?;
+        self.add_receipt(heap, ReceiverCall::Pair(pairing), 0)
     }
 
     // The index of the call of the line that sends and has this number among them, counted from 1.
@@ -211,10 +154,10 @@ impl Plan {
             (λ i. Sent self.now number × (i ≡ sent_by self.now number))
             (λ e. (e ≡ NoSuchSend) × (Sent self.now number → ⊥)) }
     {
-        if number == 0 || number as usize > self.sends.len() {
-            return Err(PlanFault::NoSuchSend);
-        }
-        Ok(self.sends[number as usize - 1])
+        number
+            .checked_sub(1)
+            .and_then(|index| self.sends.get(index as usize).copied())
+            .ok_or(PlanFault::NoSuchSend)
     }
 
     fn deliver(&mut self, heap: Global, call: usize, change: Vec<u8>) -> Result<Planned, PlanFault>
@@ -222,8 +165,8 @@ impl Plan {
             (λ x. Receipts self.old self.new x (delivering call change.items) self.old.setup.room)
             (λ e. OutOfMemory self.old self.new e) }
     {
-        let out = octets_of(heap, 0, self.setup.room)?;
-        self.add_receipt(ReceiverCall::Deliver { call, change }, out)
+        let room = self.setup.room;
+        self.add_receipt(heap, ReceiverCall::Deliver { call, change }, room)
     }
 
     fn noise(&mut self, heap: Global, octets: Vec<u8>) -> Result<Planned, PlanFault>
@@ -231,10 +174,11 @@ impl Plan {
             (λ x. Receipts self.old self.new x (handing octets.items) self.old.setup.room)
             (λ e. OutOfMemory self.old self.new e) }
     {
-        let out = octets_of(heap, 0, self.setup.room)?;
-        self.add_receipt(ReceiverCall::Receive { octets }, out)
+        let room = self.setup.room;
+        self.add_receipt(heap, ReceiverCall::Receive { octets }, room)
     }
 
+    // The setters stay one for each thing that is set: each says in its contract which one, as a setter with a closure could not in fewer words.
     fn set_memory(&mut self, memory: Memory) -> Result<Planned, PlanFault>
         ensures { MatchResult result
             (λ x. Unstarted self.old × SetsMemory self.old self.new x (holding memory))
@@ -268,21 +212,21 @@ impl Plan {
     fn set_key(&mut self, octets: Vec<u8>) -> Planned
         ensures { SetsKey self.old self.new result octets.items }
     {
-        self.setup.key = octets;
+        self.setup.pairing.key = octets;
         Planned::NoStep
     }
 
     fn set_label(&mut self, octets: Vec<u8>) -> Planned
         ensures { SetsLabel self.old self.new result octets.items }
     {
-        self.setup.label = octets;
+        self.setup.pairing.label = octets;
         Planned::NoStep
     }
 
     fn set_allowance(&mut self, count: u32) -> Planned
         ensures { SetsAllowance self.old self.new result count }
     {
-        self.setup.allowance = count;
+        self.setup.pairing.allowance = count;
         Planned::NoStep
     }
 
@@ -313,24 +257,15 @@ impl Plan {
             }
             Line::Alter { frame, at, change } => {
                 let call = self.sent_by(frame)?;
-                let mut whole = octets_of(heap, 0, at)?;
+                let mut whole = vec![in heap; 0; at as usize]?;
                 whole.extend_from_slice(change.as_slice())?;
                 self.deliver(heap, call, whole)
             }
             Line::Noise(octets) => self.noise(heap, octets),
             Line::Strip(octets) => self.set_memory(Memory::Strip(octets)),
-            Line::FreshStrip(count) => {
-                let octets = octets_of(heap, 0xff, count)?;
-                self.set_memory(Memory::Strip(octets))
-            }
-            Line::Column(octets) => {
-                let words = column_words(heap, octets.as_slice())?;
-                self.set_memory(Memory::Column(words))
-            }
-            Line::FreshColumn(count) => {
-                let words = blank_words(heap, count)?;
-                self.set_memory(Memory::Column(words))
-            }
+            Line::FreshStrip(count) => self.set_memory(Memory::fresh_strip(heap, count)?),
+            Line::Column(octets) => self.set_memory(Memory::column(heap, octets.as_slice())?),
+            Line::FreshColumn(count) => self.set_memory(Memory::fresh_column(heap, count)?),
             Line::Sender(name) => self.set_sender(name),
             Line::Receiver(name) => self.set_receiver(name),
             Line::Key(octets) => Ok(self.set_key(octets)),

@@ -21,7 +21,7 @@ returns c =
       calls = calls;
       receipts = receipts;
       performed = performed_on _ _ _ _ _ _ _ _ _ c.as_mut_slice.ensures.value c.as_mut_slice-2.ensures.value c.perform.ensures;
-      written = written_on c.args.lines.now _ _ _ _ _ _ r c.as_slice.ensures.value (c.as_slice-2.ensures.value ∙ with_items_is plan.calls calls all-calls)
-          (c.as_slice-3.ensures.value ∙ with_items_is plan.receipts receipts all-receipts) w;
+      written = written_on c.args.lines.now _ _ _ _ _ _ r c.as_slice-3.ensures.value (c.as_slice.ensures.value ∙ with_items_is plan.calls calls all-calls)
+          (c.as_slice-2.ensures.value ∙ with_items_is plan.receipts receipts all-receipts) w;
     })
     c.written.ensures

@@ -1,3 +1,0 @@
-mod Cuts
-mod Pieces
-pub mod Sums

@@ -1,4 +1,0 @@
-use Rattle.transcript.proofs.text.receiver_text.Goals as goal
-
-pub returns-in-None : goal.returns-in-None
-returns-in-None c = rw c.in-None.is c.from_str.ensures.ok
