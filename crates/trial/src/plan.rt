@@ -34,10 +34,12 @@ pub struct Plan {
     /// The calls on the receiver.
     pub receipts: Vec<ReceiverStep>,
     /// The index of the call of each line that sends.
+    // indices, as a delivery names the call of a frame that is yet to be made
     pub sends: Vec<usize>,
 }
 
 /// What a line asked for.
+// `NoStep` is a case among the four and no `Option` around three: each case says what stands behind a line.
 #[derive(Clone, Copy)]
 pub enum Planned {
     /// No step: the line sets something, or is blank.
