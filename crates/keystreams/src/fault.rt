@@ -16,6 +16,7 @@ pub enum Fault {
     NoMemory,
 }
 
+// by hand, since clauses name the error that a `?` makes
 impl From<AllocError> for Fault {
     ghost from_gives = { λ _ r. r ≡ NoMemory };
 

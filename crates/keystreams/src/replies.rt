@@ -19,6 +19,7 @@ pub enum Complaint {
     NoMemory,
 }
 
+// by hand, since clauses name the error that a `?` makes
 impl From<AllocError> for Complaint {
     ghost from_gives = { λ _ r. r ≡ NoMemory };
 

@@ -81,6 +81,7 @@ fn nonce_octets(figures: Figures, nonce: &Nonce) -> usize
     }
 }
 
+// Not by `Display`: what is printed depends on the request and not on the refusal alone.
 #[tactic(auto, unfolding(crate::specs::Texts::reason_text))]
 fn reason_text(
     heap: Global,

@@ -49,6 +49,7 @@ pub fn load_session<E: Engine>(engine: &mut E, key: &[u8], label: &[u8], session
     ensures keeps { (load_refusal E.cipher key.now (session_iv label.now session) ≢ None)
         → engine.new ≡ engine.old }
 {
+    // an array with the length of what was written into it: the link allocates nothing
     let mut iv = [0; 16];
     if let Ok(n) = session_iv(label, session, &mut iv) {
         let _ = engine.load(key, &iv[0..n]);

@@ -82,6 +82,7 @@ fn deliver<F: Reversible>(
         (receiver_as F.Engine.cipher (holds F.Engine.cipher F.Engine.state receiver.new)) }
     ensures beyond { Beyond (octets_opened (Some result)) out.old out.new }
 {
+    // an array, as a run allocates nothing
     let mut copy = [0u8; 1034];
     let octets = &mut copy[0..frame.len()];
     octets.copy_from_slice(frame);

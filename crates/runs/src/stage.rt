@@ -3,6 +3,7 @@ use sender::resting::Resting;
 use sender::sending::Sending;
 
 /// A sender, at rest or in a session.
+// an enum over the two types that the rules ask for
 #[derive(Drop)]
 pub enum Stage<E, S> {
     /// At rest.

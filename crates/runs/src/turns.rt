@@ -12,6 +12,8 @@ use sender::resting::Resting;
 use sender::sending::Sending;
 use stream::engine::Engine;
 
+// What a sender stands for is named by `resting_as`, `sending_as` and `stage_as` in each clause and by no model:
+// a model's value cannot use a bound's ghost members, and an enum cannot have a model.
 fn open<E: Engine + Drop, S: MarkStore + Drop>(
     sender: Resting<E, S>,
     pairing: &Pairing,

@@ -30,6 +30,7 @@ pub enum LineFault {
     NoMemory,
 }
 
+// by hand, since clauses name the error that a `?` makes
 impl From<AllocError> for LineFault {
     ghost from_gives = { λ _ r. r ≡ NoMemory };
 

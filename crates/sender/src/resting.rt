@@ -48,6 +48,7 @@ impl<E: Engine, S: MarkStore> Resting<E, S> {
             (λ e. (pair_refusal E.Engine.cipher key.now label.now allowance ≡ Some (number e.0))
             × (e.1 ≡ self)) }
     {
+        // a match: a `?` cannot hand the sender back
         match check_pairing::<E>(key, label, allowance) {
             Ok(()) => Ok(self),
             Err(refusal) => Err((refusal, self)),
@@ -111,6 +112,7 @@ impl<E: Engine, S: MarkStore> Resting<E, S> {
             × (e.1 ≡ self)) }
     {
         let Resting { engine, mut store } = self.checked(key, label, allowance)?;
+        // a match, for the same reason
         match store.torn_raise(writes_done, junk) {
             Ok(()) => Ok(Resting { engine, store }),
             Err(refusal) => Err((refusal, Resting { engine, store })),

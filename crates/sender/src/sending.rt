@@ -15,6 +15,7 @@ use stream::engine::Engine;
 use stream::refusal::Refusal;
 
 /// A sender in a session: engine and store as at rest, and how far the session has come.
+// `store` and `power_cut` stand in both types of a sender: the rules ask for two, so that a send at rest does not build.
 #[derive(Drop)]
 pub struct Sending<E, S> {
     pub(crate) engine: E,

@@ -24,6 +24,7 @@ fn send_frames<E: Engine, S: MarkStore>(
         let Ok(octets) = sender.send(piece, &mut out[written..]) else {
             return written;
         };
+        // added up by hand, as the sum is the answer
         written += octets;
     }
     written
@@ -44,6 +45,7 @@ fn receive_frames<E: Reversible>(
         let Ok(received) = receiver.receive(frame, &mut out[written..]) else {
             return written;
         };
+        // added up by hand, as the sum is the answer
         written += received.length as usize;
     }
     written

@@ -13,6 +13,7 @@ use registers::{high, low, middle};
 #[derive(Clone, Copy)]
 pub struct Round {
     /// Whether it is one of the first 80 clocks after loading, whose round key is the key's bit alone.
+    // a flag and no closure for the round key: the two cases read as in the public description
     pub early: bool,
     /// The key's bit at the counter.
     pub key_bit: bool,

@@ -18,6 +18,7 @@ pub enum HexFault {
     NoMemory,
 }
 
+// by hand, since clauses name the error that a `?` makes
 impl From<AllocError> for HexFault {
     ghost from_gives = { λ _ r. r ≡ NoMemory };
 

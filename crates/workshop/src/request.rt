@@ -69,6 +69,7 @@ impl Words<'_> {
         let Some(text) = value_of(self.words, field) else {
             return Ok(None);
         };
+        // a match: the error needs the field, which a `From` does not have
         match hex_octets(self.heap, text) {
             Ok(octets) => Ok(Some(octets)),
             Err(HexFault::NoMemory) => Err(Fault::NoMemory),
