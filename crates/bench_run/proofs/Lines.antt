@@ -1,18 +1,13 @@
 -- Lines in a row: what becomes of them one by one, and their rows.
 use Rattle.std.proofs.Common.{◌≡◌, ℕ, ◌+◌, ◌<◌, List, [], ◌∷◌, ◌++◌, length, get_or, take, string_bytes, String, Result, sym, refl, ap, ◌∙◌, subst, ◌⊎◌, ⊎_elim, arith, append_assoc, append-nil}
 use Rattle.std.proofs.lemmas.List.{take_more}
-use Rattle.stream.specs.Ciphers.{Cipher}
 use Rattle.runs.specs.declared.calls.SenderStep.{SenderStep}
 use Rattle.runs.specs.declared.calls.ReceiverStep.{ReceiverStep}
-use Rattle.trial.specs.Performed.{Performed}
-use Rattle.trial.specs.declared.memory.Memory.{Memory}
 use Rattle.trial.specs.declared.plan.Plan.{Plan}
 use Rattle.trial.specs.declared.plan.Planned.{Planned}
 use Rattle.bench_run.specs.Noted.{Noted, NotedAll}
-use Rattle.bench_run.specs.Replies.{Written}
 use Rattle.bench_run.specs.Rows.{answer_text, row_text, rows_text}
 use Rattle.bench_run.specs.declared.note.BadLine.{BadLine}
-use Rattle.bench_run.specs.declared.reply.Reply.{Reply}
 
 abbrev Note : Type 0
 Note = Result Planned BadLine
@@ -63,15 +58,3 @@ module _ {Y : Type 0} where
     pub rows_all : {A B : Type 0} (n : ℕ) (lines : List (String Y)) (notes : List Note) (text all : List ℕ) → A ⊎ B → (A → length lines ≡ 0) → (B → length notes ≡ 0) → text ++ rows n lines notes ≡ all → text ≡ all
     rows_all n lines notes text all ends a b so =
         sym (append-nil text) ∙ ap (λ r. text ++ r) (sym (⊎_elim (λ x. no_lines n lines notes (a x)) (λ y. no_notes n lines notes (b y)) ends)) ∙ so
-
--- steps by the lists that lent them
-pub performed_on : (c d : Cipher) (memory : Memory) (calls from made : List SenderStep) (receipts before taken : List ReceiverStep) → calls ≡ from → receipts ≡ before
-    → Performed c d memory calls made receipts taken → Performed c d memory from made before taken
-performed_on c d memory calls from made receipts before taken e f done =
-    subst (λ xs. Performed c d memory xs made before taken) e (subst (λ ys. Performed c d memory calls made ys taken) f done)
-
--- the transcript of steps by the lists that lent them
-pub written_on : {Y : Type 0} (lines : List (String Y)) (notes notes' : List Note) (calls calls' : List SenderStep) (receipts receipts' : List ReceiverStep) (r : Reply) → notes ≡ notes' → calls ≡ calls'
-    → receipts ≡ receipts' → Written lines notes calls receipts r → Written lines notes' calls' receipts' r
-written_on lines notes notes' calls calls' receipts receipts' r e f g w =
-    subst (λ ns. Written lines ns calls' receipts' r) e (subst (λ cs. Written lines notes cs receipts' r) f (subst (λ rs. Written lines notes calls rs r) g w))

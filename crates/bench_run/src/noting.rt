@@ -16,6 +16,7 @@ pub fn note_line(heap: Global, plan: &mut Plan, line: &str) -> Result<Planned, B
 }
 
 /// Reads lines in order and takes each into a plan.
+#[tactic(auto, using(crate::proofs::Lines::noted_more))]
 pub fn note_lines(heap: Global, plan: &mut Plan, lines: &[String]) -> Result<Vec<Note>, AllocError>
     ensures { IfOk result (λ v. NotedAll plan.old lines.now v.items plan.new) }
 {

@@ -1,5 +1,5 @@
 //! A session sent, and frames received, by Grain-128 at stride 32.
-ghost use Rattle.std.specs.Prelude.{◌≤◌, length};
+ghost use Rattle.std.specs.Prelude.{◌<◌, ◌≤◌, ℕ, Ok, length};
 
 use grain128::engines::Grain128x32;
 use marks::store::MarkStore;
@@ -7,7 +7,31 @@ use receiver::Receiver;
 use sender::resting::Resting;
 use sender::sending::Sending;
 use stream::engine::{Engine, Reversible};
+use stream::refusal::Refusal;
 use strip::strip::Strip;
+
+// Hands pieces of so many octets, the last one maybe shorter, in turn to a call that writes at the start of what is left of a buffer, up to the first that it refuses.
+// Answers how many octets of the buffer were written.
+fn written_in_turn<F: FnMut(&[u8], &mut [u8]) -> Result<usize, Refusal>>(
+    octets: &[u8],
+    size: usize,
+    out: &mut [u8],
+    mut write: F,
+) -> usize
+    requires sized { 0 < size }
+    requires called { F.IsAlwaysCallable write }
+    requires fits { (f next : F) (piece : _) (rest left : _) (added : ℕ) → F.step f piece rest (Ok added) left next → added ≤ length rest.now }
+    ensures { result ≤ length out.old }
+{
+    let mut written = 0;
+    for piece in octets.chunks(size) {
+        let Ok(added) = write(piece, &mut out[written..]) else {
+            return written;
+        };
+        written += added;
+    }
+    written
+}
 
 // Sends a plain in frames of so many octets, the last one shorter where they do not come out even, one after the other into a buffer.
 // Stops at the first send that is refused. Answers how many octets of the buffer are frames.
@@ -19,15 +43,9 @@ fn send_frames<E: Engine, S: MarkStore>(
 ) -> usize
     ensures { result ≤ length out.old }
 {
-    let mut written = 0;
-    for piece in plain.chunks(size.max(1)) {
-        let Ok(octets) = sender.send(piece, &mut out[written..]) else {
-            return written;
-        };
-        // added up by hand, as the sum is the answer
-        written += octets;
-    }
-    written
+    written_in_turn(plain, size.max(1), out, |piece, rest| {
+        sender.send(piece, rest)
+    })
 }
 
 // Receives frames of so many octets of payload each, one after the other from a buffer, and writes their plains one after the other.
@@ -40,15 +58,10 @@ fn receive_frames<E: Reversible>(
 ) -> usize
     ensures { result ≤ length out.old }
 {
-    let mut written = 0;
-    for frame in frames.chunks(size.min(1024) + 10) {
-        let Ok(received) = receiver.receive(frame, &mut out[written..]) else {
-            return written;
-        };
-        // added up by hand, as the sum is the answer
-        written += received.length as usize;
-    }
-    written
+    written_in_turn(frames, size.min(1024) + 10, out, |frame, rest| {
+        let received = receiver.receive(frame, rest)?;
+        Ok(received.length as usize)
+    })
 }
 
 // Opens a session at the ceiling, and sends a plain as `send_frames` does. Answers 0 where the open is refused.

@@ -13,6 +13,7 @@ use strip::strip::Strip;
 use texts::names::CipherName;
 
 // Over an engine for the sender and one for the receiver, and a store over a memory.
+// The calls and the receipts stay two parameters, as `run` takes them: of a struct of two `&mut` slices no clause says so plainly what they hold afterwards.
 fn over_memory<E: Engine + Drop, F: Reversible + Drop>(
     engine: E,
     receiver_engine: F,

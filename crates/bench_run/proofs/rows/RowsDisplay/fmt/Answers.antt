@@ -19,15 +19,26 @@ pub loop-index-preserved : goal.loop-index-preserved
 loop-index-preserved g c =
     let step = c.in-Some.ensures.steps in
     let old = c.loop-index.invariant in
-    let steps = c.args.self.now.steps in (
-      old.0 ++ row_text (c.in-Some.index + 1) c.as_str.result.now (answer_text c.in-Some.note.now steps.calls.now steps.receipts.now),
-      rows_more steps.calls.now steps.receipts.now _ _ _ _ _ _ _ _ _ _ _ _ step.0.0 step.0.1 step.1 step.2 c.as_str.ensures.value old.1,
-      λ p. has_written_append _ _ _ _ _ _ (old.2 p) (c.write.ensures.writes (old.2 p).plain (search rules)),
+    let all = c.args.self.now in
+    let calls = all.steps.calls.now in
+    let receipts = all.steps.receipts.now in
+    let items = c.loop-index.index-iterator in
+    let rest = c.next.new.self in
+    let row = row_text (c.in-Some.index + 1) c.as_str.result.now (answer_text c.in-Some.note.now calls receipts) in (
+      old.0 ++ row,
+      rows_more calls receipts c.in-Some.index (enumerate_count items) (enumerate_count rest) (iter_rest (zip_first (enumerate_source items))) (iter_rest (zip_first (enumerate_source rest)))
+          (iter_rest (zip_second (enumerate_source items))) (iter_rest (zip_second (enumerate_source rest))) c.in-Some.line.now c.in-Some.note.now c.as_str.result.now old.0
+          (rows_text calls receipts 1 all.lines.now all.notes.now) step.0.0 step.0.1 step.1 step.2 c.as_str.ensures.value old.1,
+      λ p. has_written_append g.W.Write.write_str_gives c.args.f.now old.0 c.loop-index.f row c.write.new.self (old.2 p) (c.write.ensures.writes (old.2 p).plain (search rules)),
     )
 
 pub returns-clause-writes : goal.returns-clause-writes
 returns-clause-writes g c =
     let old = c.loop-index.invariant in
-    let steps = c.args.self.now.steps in
-    let text = rows_all steps.calls.now steps.receipts.now _ _ _ _ _ c.in-None.ensures.steps.0 (λ e. e.1.0) (λ e. e.1.0) old.1 in
-    λ p ok. has_written_of_eq _ _ _ _ _ text (old.2 p)
+    let all = c.args.self.now in
+    let calls = all.steps.calls.now in
+    let receipts = all.steps.receipts.now in
+    let items = c.loop-index.index-iterator in
+    let text = rows_all calls receipts (enumerate_count items + 1) (iter_rest (zip_first (enumerate_source items))) (iter_rest (zip_second (enumerate_source items))) old.0
+    (rows_text calls receipts 1 all.lines.now all.notes.now) c.in-None.ensures.steps.0 (λ e. e.1.0) (λ e. e.1.0) old.1 in
+    λ p ok. has_written_of_eq g.W.Write.write_str_gives c.args.f.now old.0 (rows_text calls receipts 1 all.lines.now all.notes.now) c.loop-index.f text (old.2 p)
