@@ -100,12 +100,8 @@ impl Pair {
         ensures { let shape = T.shape taps in held_by shape result ≡ times clocks (initial_by shape) (held_by shape self) }
     {
         let mut reached = self;
-        let mut left = clocks;
-        // a `for` over whole widths would need a second call for the clocks that are left after them
-        while left > 0 {
-            let m = left.min(taps.width());
-            reached = reached.initialised_by(taps, m);
-            left -= m;
+        for done in (0..clocks).step_by(taps.width() as usize) {
+            reached = reached.initialised_by(taps, taps.width().min(clocks - done));
         }
         reached
     }

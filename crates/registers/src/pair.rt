@@ -1,3 +1,5 @@
+//! The two registers of a cipher.
+
 /// The two registers of a cipher, index 0 of each in bit 0.
 #[derive(Clone, Copy, PartialEq, Eq, Debug)]
 pub struct Pair {

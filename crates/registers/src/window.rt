@@ -1,3 +1,4 @@
+//! A register in three overlapping parts.
 ghost use Rattle.std.specs.Prelude.{◌≡◌};
 ghost use Rattle.registers.specs.Words.{window_of};
 
