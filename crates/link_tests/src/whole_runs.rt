@@ -105,7 +105,10 @@ fn frame_of<E: Engine + Drop, S: MarkStore + Drop, F: Reversible + Drop>(
         calls.as_mut_slice(),
         none.as_mut_slice(),
     );
-    assert_eq!(rt; calls.len(), 3, "every call has an answer");
+    let open = calls.get(0).ok_or("no such step")?;
+    assert_eq!(rt; open.answer, SenderAnswer::Opened(0), "the open is made");
+    let close = calls.get(2).ok_or("no such step")?;
+    assert_eq!(rt; close.answer, SenderAnswer::Rested, "the close is made");
     let send = calls.get(1).ok_or("no such step")?;
     match send.answer {
         SenderAnswer::Sent(size) => {
@@ -140,6 +143,13 @@ fn opens<E: Engine + Drop, S: MarkStore + Drop, F: Reversible + Drop>(
         none.as_mut_slice(),
         receipts.as_mut_slice(),
     );
+    check_receipt(
+        rt,
+        receipts.get(0),
+        Some(ReceiverAnswer::Paired),
+        b"",
+        "the pair is made",
+    )?;
     check_receipt(rt, receipts.get(1), opened(0), b"12 up", "the frame opens")
 }
 

@@ -20,6 +20,7 @@ mod stages;
 mod standing;
 
 /// A receiver: an engine, what the last accepted pair told, and where the engine stands.
+// What it holds is named by `holds` in each clause: a model's `Value` cannot name a bound's ghost member.
 #[derive(Drop)]
 pub struct Receiver<E> {
     engine: E,
@@ -51,6 +52,7 @@ impl<E: Reversible> Receiver<E> {
         }
     }
 
+    // key, label and allowance: three parameters, as the rules have them
     /// Pairs the receiver with a key, a label and an allowance, which replace all that it knew:
     /// afterwards there is no present session and the place is 0.
     /// Refused with 1, 2, 3 or 4, the first that applies, it leaves the receiver as it was.

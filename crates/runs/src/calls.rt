@@ -103,6 +103,7 @@ pub enum ReceiverCall {
     /// Hand a frame of the sender to the receiver.
     Deliver {
         /// The index of the call on the sender that wrote the frame, counted from 0.
+        // an index, as the frame is yet to be written
         call: usize,
         /// What is added bit by bit to the first octets of the frame on its way; none for a frame that comes unaltered.
         change: Vec<u8>,

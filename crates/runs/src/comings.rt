@@ -1,4 +1,5 @@
 //! One call on a receiver.
+// What a receiver stands for is named by `receiver_as` and `holds` in each clause: a model's `Value` cannot name a bound's ghost member.
 ghost use Rattle.std.specs.Prelude.{◌≡◌, ℕ, ◌≤◌, List, length, IfSome, Some};
 ghost use Rattle.std.specs.Option.{option_map};
 ghost use Rattle.receiver.specs.Receiving.{holds};

@@ -1,4 +1,5 @@
 //! Runs over both ends.
+// The calls on a sender and those on a receiver stay two parameters: two lists, made one after the other, which a struct of both would only hold until then.
 ghost use Rattle.std.specs.Prelude.{None};
 ghost use Rattle.receiver.specs.Receiving.{holds};
 ghost use Rattle.histories.specs.Histories.{at_rest, receiver};
@@ -30,14 +31,13 @@ pub fn run_sender<E: Engine + Drop, S: MarkStore + Drop>(
 
 /// Makes the calls of all steps on a receiver, in order, where a sender's calls were made, and notes in each step what it answered.
 pub fn run_receiver<F: Reversible + Drop>(
-    receiver: Receiver<F>,
+    mut receiver: Receiver<F>,
     sent: &[SenderStep],
     steps: &mut [ReceiverStep],
 )
     ensures { ReceiverRan F.Engine.cipher sent.now (receiver_as F.Engine.cipher (holds F.Engine.cipher F.Engine.state receiver))
         steps.old steps.new }
 {
-    let mut receiver = receiver;
     for step in steps.iter_mut() {
         take_in(&mut receiver, sent, step);
     }

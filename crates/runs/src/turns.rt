@@ -1,4 +1,6 @@
 //! One call on a sender.
+// What a sender stands for is named by `resting_as`, `sending_as` and `stage_as` in each clause. A model was tried: its `Value` cannot
+// name a bound's ghost member ("projects from a record, but this has type `Type 0`"), and "an impl of `Model` for an enum is not supported yet".
 ghost use Rattle.std.specs.Prelude.{◌≡◌, ℕ, List, length};
 ghost use Rattle.histories.specs.Calls.{made, opening, torn_opening, sending};
 ghost use Rattle.histories.specs.Histories.{Step, marks_of};
@@ -12,8 +14,6 @@ use sender::resting::Resting;
 use sender::sending::Sending;
 use stream::engine::Engine;
 
-// What a sender stands for is named by `resting_as`, `sending_as` and `stage_as` in each clause and by no model:
-// a model's value cannot use a bound's ghost members, and an enum cannot have a model.
 fn open<E: Engine + Drop, S: MarkStore + Drop>(
     sender: Resting<E, S>,
     pairing: &Pairing,
@@ -55,7 +55,7 @@ fn torn_open<E: Engine + Drop, S: MarkStore + Drop>(
 }
 
 fn send<E: Engine + Drop, S: MarkStore + Drop>(
-    sender: Sending<E, S>,
+    mut sender: Sending<E, S>,
     plain: &[u8],
     out: &mut [u8],
 ) -> (Stage<E, S>, SenderAnswer)
@@ -64,7 +64,6 @@ fn send<E: Engine + Drop, S: MarkStore + Drop>(
         (stage_as E.Engine.cipher E.Engine.state S.MarkStore.mark S.MarkStore.left result.0) }
     ensures beyond { Beyond (octets_sent result.1) out.old out.new }
 {
-    let mut sender = sender;
     match sender.send(plain, out) {
         Ok(octets) => (
             Stage::InSession(sender),

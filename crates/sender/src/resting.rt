@@ -55,6 +55,7 @@ impl<E: Engine, S: MarkStore> Resting<E, S> {
         }
     }
 
+    // key, label and allowance: three parameters here and below, as the rules have them
     /// Opens a session of at most `allowance` octets under a key and a label.
     /// The store's mark becomes the session number; the store is raised, and then the engine is set to the session's start.
     /// Refused with the first that applies of 1, 2, 3, 4 and 10, it gives the sender back as it was.

@@ -44,8 +44,8 @@ pub fn cover<E: Engine>(engine: &mut E, octets: &mut [u8])
     ensures moves { E.state engine.new ≡ later E.cipher (8 * length octets.old) (E.state engine.old) }
 {
     let mut done = 0;
-    // by hand: a proof knows no element that `chunks_mut` lent once its loop is over, and a `for` over the words,
-    // by `step_by` or by `div_ceil`, takes 7 to 11 in 100 more instructions at stride 32
+    // by hand: tried with `chunks_mut(4)`, of which a proof knows no element once the loop is over; a `for` over the words
+    // is no plainer, as it needs the start and the size of each too, and takes 7 to 15 in 100 more instructions at stride 32
     while done < octets.len() {
         let count = (octets.len() - done).min(4);
         let word = take_bits(engine, 8 * count as u32);

@@ -8,6 +8,7 @@ use crate::figures::Figures;
 use crate::refusal::Refusal;
 
 /// A keystream generator that can be loaded and drawn from.
+// A key and an IV stay two parameters of each call, as the rules name them.
 pub trait Engine {
     ghost cipher: { Cipher };
 

@@ -1,4 +1,4 @@
--- The cipher of each engine that can be named.
+-- The cipher of each engine that can be named. The keystream tool has the same table: a crate of its own would hold these lines alone.
 use Rattle.stream.specs.Ciphers.{Cipher}
 use Rattle.grain128.specs.Grain128.{grain128, grain128x32}
 use Rattle.grain128.specs.Grain128a.{grain128a, grain128ax32}

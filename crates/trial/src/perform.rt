@@ -1,4 +1,5 @@
 //! The steps of a trial, made.
+// The calls and the receipts stay two parameters, as those of `runs::run::run` do.
 ghost use Rattle.trial.specs.Named.{cipher_of};
 ghost use Rattle.trial.specs.Performed.{Performed};
 
