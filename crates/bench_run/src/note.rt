@@ -37,6 +37,7 @@ impl From<PlanFault> for BadLine {
 }
 
 /// Why a line is bad, in a few words.
+// written by hand, as a derived one promises no text
 impl fmt::Display for BadLine {
     ghost output = { λ x. Some (bad_line_text x) };
 

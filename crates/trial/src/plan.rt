@@ -86,6 +86,7 @@ impl<T: Drop> From<AllocFailed<T>> for PlanFault {
 }
 
 /// Why a plan cannot take a line, in a few words.
+// written by hand, as a derived one promises no text
 impl fmt::Display for PlanFault {
     ghost output = { λ x. Some (plan_fault_text x) };
 
