@@ -14,7 +14,7 @@ use texts::words::split_words;
 impl CommandWords<'_> {
     fn strip(&self) -> Result<Line, LineFault>
         requires { self.now.command ≡ Strip }
-        ensures { MatchResult result (WordsSay (line_words self.now.command self.now.rest.now)) (WordsRefused (line_words self.now.command self.now.rest.now)) }
+        ensures { MatchResult result (WordsSay (line_words self.now)) (WordsRefused (line_words self.now)) }
     {
         match self.memory()? {
             Memory::Written(octets) => Ok(Line::Strip(octets)),
@@ -24,7 +24,7 @@ impl CommandWords<'_> {
 
     fn column(&self) -> Result<Line, LineFault>
         requires { self.now.command ≡ Column }
-        ensures { MatchResult result (WordsSay (line_words self.now.command self.now.rest.now)) (WordsRefused (line_words self.now.command self.now.rest.now)) }
+        ensures { MatchResult result (WordsSay (line_words self.now)) (WordsRefused (line_words self.now)) }
     {
         match self.memory()? {
             Memory::Written(octets) => {
@@ -40,7 +40,7 @@ impl CommandWords<'_> {
 
     fn torn(&self) -> Result<Line, LineFault>
         requires { self.now.command ≡ Torn }
-        ensures { MatchResult result (WordsSay (line_words self.now.command self.now.rest.now)) (WordsRefused (line_words self.now.command self.now.rest.now)) }
+        ensures { MatchResult result (WordsSay (line_words self.now)) (WordsRefused (line_words self.now)) }
     {
         let [writes, junk] = self.rest else {
             return Err(LineFault::WordCount);
@@ -53,7 +53,7 @@ impl CommandWords<'_> {
 
     fn alter(&self) -> Result<Line, LineFault>
         requires { self.now.command ≡ Alter }
-        ensures { MatchResult result (WordsSay (line_words self.now.command self.now.rest.now)) (WordsRefused (line_words self.now.command self.now.rest.now)) }
+        ensures { MatchResult result (WordsSay (line_words self.now)) (WordsRefused (line_words self.now)) }
     {
         let [frame, at, change] = self.rest else {
             return Err(LineFault::WordCount);
@@ -67,7 +67,7 @@ impl CommandWords<'_> {
 
     // What the command says with the words after its own.
     fn line(&self) -> Result<Line, LineFault>
-        ensures { MatchResult result (WordsSay (line_words self.now.command self.now.rest.now)) (WordsRefused (line_words self.now.command self.now.rest.now)) }
+        ensures { MatchResult result (WordsSay (line_words self.now)) (WordsRefused (line_words self.now)) }
     {
         match self.command {
             Command::Sender => Ok(Line::Sender(self.engine()?)),
@@ -99,7 +99,12 @@ fn read_words(heap: Global, words: &[String]) -> Result<Line, LineFault>
         return Ok(Line::Blank);
     };
     let command = first.as_str().parse()?;
-    CommandWords { heap, command, rest }.line()
+    CommandWords {
+        heap,
+        command,
+        rest,
+    }
+    .line()
 }
 
 // The text after `say` and a space, if the line begins so.

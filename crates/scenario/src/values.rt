@@ -69,18 +69,19 @@ impl CommandWords<'_> {
     pub(crate) fn bare(&self, line: Line) -> Result<Line, LineFault>
         requires no_words { takes self.now.command ≡ [] ∷ [] }
         requires says { WordsSay (command_word self.now.command ∷ []) line }
-        ensures { MatchResult result (WordsSay (line_words self.now.command self.now.rest.now)) (WordsRefused (line_words self.now.command self.now.rest.now)) }
+        ensures { MatchResult result (WordsSay (line_words self.now)) (WordsRefused (line_words self.now)) }
     {
-        let [] = self.rest else {
-            return Err(LineFault::WordCount);
-        };
-        Ok(line)
+        if self.rest.is_empty() {
+            Ok(line)
+        } else {
+            Err(LineFault::WordCount)
+        }
     }
 
     /// The engine that the one word after that of the command names.
     pub(crate) fn engine(&self) -> Result<CipherName, LineFault>
         requires { takes self.now.command ≡ (engine_kind ∷ []) ∷ [] }
-        ensures { MatchResult result (λ c. line_words self.now.command self.now.rest.now ≡ command_word self.now.command ∷ cipher_word c ∷ []) (WordsRefused (line_words self.now.command self.now.rest.now)) }
+        ensures { MatchResult result (λ c. line_words self.now ≡ command_word self.now.command ∷ cipher_word c ∷ []) (WordsRefused (line_words self.now)) }
     {
         let [word] = self.rest else {
             return Err(LineFault::WordCount);
@@ -91,7 +92,7 @@ impl CommandWords<'_> {
     /// The number that the one word after that of the command writes.
     pub(crate) fn number(&self) -> Result<u32, LineFault>
         requires { takes self.now.command ≡ (number_kind ∷ []) ∷ [] }
-        ensures { MatchResult result (NumberAfter (command_word self.now.command) (line_words self.now.command self.now.rest.now)) (WordsRefused (line_words self.now.command self.now.rest.now)) }
+        ensures { MatchResult result (NumberAfter (command_word self.now.command) (line_words self.now)) (WordsRefused (line_words self.now)) }
     {
         let [word] = self.rest else {
             return Err(LineFault::WordCount);
@@ -102,7 +103,7 @@ impl CommandWords<'_> {
     /// The octets that the one word after that of the command writes, and none where no word follows.
     pub(crate) fn octets(&self) -> Result<Vec<u8>, LineFault>
         requires { takes self.now.command ≡ [] ∷ (octets_kind ∷ []) ∷ [] }
-        ensures { MatchResult result (λ v. OctetsAfter (command_word self.now.command) (line_words self.now.command self.now.rest.now) v.items) (WordsRefused (line_words self.now.command self.now.rest.now)) }
+        ensures { MatchResult result (λ v. OctetsAfter (command_word self.now.command) (line_words self.now) v.items) (WordsRefused (line_words self.now)) }
     {
         match self.rest {
             [] => Ok(Vec::new(self.heap)),
@@ -114,7 +115,7 @@ impl CommandWords<'_> {
     /// The memory that is written after the word of the command: octets, or `fresh` and a number.
     pub(crate) fn memory(&self) -> Result<Memory, LineFault>
         requires { takes self.now.command ≡ (octets_kind ∷ []) ∷ (fresh_kind ∷ number_kind ∷ []) ∷ [] }
-        ensures { MatchResult result (MemoryAfter (command_word self.now.command) (line_words self.now.command self.now.rest.now)) (WordsRefused (line_words self.now.command self.now.rest.now)) }
+        ensures { MatchResult result (MemoryAfter (command_word self.now.command) (line_words self.now)) (WordsRefused (line_words self.now)) }
     {
         match self.rest {
             [word] => Ok(Memory::Written(octets(self.heap, word.as_str())?)),
