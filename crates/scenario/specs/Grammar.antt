@@ -1,7 +1,8 @@
 -- The words of a line: the first says what is to follow it.
-use Rattle.std.specs.Prelude.{◌≡◌, ℕ, ◌⊎◌, List, [], ◌∷◌, map, string_bytes, codes, String}
+use Rattle.std.specs.Prelude.{◌≡◌, ℕ, ◌⊎◌, List, [], ◌∷◌, map, string_bytes, codes}
 use Rattle.scenario.specs.declared.command.Command.{Command}
 use Rattle.scenario.specs.declared.command.Command.TheVariants.{Sender, Receiver, Strip, Column, Key, Label, Allowance, Room, Open, Close, Cut, Pair, Torn, Send, Say, Deliver, Alter, Noise}
+use Rattle.scenario.specs.declared.values.CommandWords.{CommandWords}
 
 -- the word of a command
 abbrev pub command_word : Command → List ℕ
@@ -90,7 +91,6 @@ pub record ReadAs (k : Kind) (ws : List (List ℕ)) (w : List ℕ) : Type 0 wher
   pub fits : Fits row after
   pub place : InPlace k w row after
 
-module _ {Y : Type 0} where
-  -- the words of a line: that of a command, and these
-  abbrev pub line_words : Command → List (String Y) → List (List ℕ)
-  line_words c rest = command_word c ∷ map string_bytes rest
+-- the words of a line: that of a command, and those after it
+abbrev pub line_words : CommandWords → List (List ℕ)
+line_words c = command_word c.command ∷ map string_bytes c.rest.now

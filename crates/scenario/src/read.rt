@@ -7,94 +7,88 @@ ghost use Rattle.scenario.specs.declared.command.Command.TheVariants.{Strip, Col
 use crate::command::Command;
 use crate::fault::LineFault;
 use crate::line::Line;
-use crate::values::{
-    Memory, engine_after, memory_after, number, number_after, octets, octets_after, three_words,
-    two_words, word32,
-};
+use crate::values::{CommandWords, Memory, number, octets, word32};
 use std::alloc::Global;
 use texts::words::split_words;
 
-// What a command that takes no words says, where none follows it.
-fn bare_line(command: Command, rest: &[String], line: Line) -> Result<Line, LineFault>
-    requires no_words { takes command ≡ [] ∷ [] }
-    requires says { WordsSay (command_word command ∷ []) line }
-    ensures { MatchResult result (WordsSay (line_words command rest.now)) (WordsRefused (line_words command rest.now)) }
-{
-    if rest.is_empty() {
-        Ok(line)
-    } else {
-        Err(LineFault::WordCount)
-    }
-}
-
-fn strip_line(heap: Global, rest: &[String]) -> Result<Line, LineFault>
-    ensures { MatchResult result (WordsSay (line_words Strip rest.now)) (WordsRefused (line_words Strip rest.now)) }
-{
-    match memory_after(heap, Command::Strip, rest)? {
-        Memory::Written(octets) => Ok(Line::Strip(octets)),
-        Memory::Fresh(count) => Ok(Line::FreshStrip(count)),
-    }
-}
-
-fn column_line(heap: Global, rest: &[String]) -> Result<Line, LineFault>
-    ensures { MatchResult result (WordsSay (line_words Column rest.now)) (WordsRefused (line_words Column rest.now)) }
-{
-    match memory_after(heap, Command::Column, rest)? {
-        Memory::Written(octets) => {
-            if octets.len() % 4 == 0 {
-                Ok(Line::Column(octets))
-            } else {
-                Err(LineFault::PartWord)
-            }
+impl CommandWords<'_> {
+    fn strip(&self) -> Result<Line, LineFault>
+        requires { self.now.command ≡ Strip }
+        ensures { MatchResult result (WordsSay (line_words self.now)) (WordsRefused (line_words self.now)) }
+    {
+        match self.memory()? {
+            Memory::Written(octets) => Ok(Line::Strip(octets)),
+            Memory::Fresh(count) => Ok(Line::FreshStrip(count)),
         }
-        Memory::Fresh(count) => Ok(Line::FreshColumn(count)),
     }
-}
 
-fn torn_line(rest: &[String]) -> Result<Line, LineFault>
-    ensures { MatchResult result (WordsSay (line_words Torn rest.now)) (WordsRefused (line_words Torn rest.now)) }
-{
-    let (writes, junk) = two_words(rest)?;
-    Ok(Line::TornOpen {
-        writes: number(writes)?,
-        junk: word32(junk)?,
-    })
-}
+    fn column(&self) -> Result<Line, LineFault>
+        requires { self.now.command ≡ Column }
+        ensures { MatchResult result (WordsSay (line_words self.now)) (WordsRefused (line_words self.now)) }
+    {
+        match self.memory()? {
+            Memory::Written(octets) => {
+                if octets.len() % 4 == 0 {
+                    Ok(Line::Column(octets))
+                } else {
+                    Err(LineFault::PartWord)
+                }
+            }
+            Memory::Fresh(count) => Ok(Line::FreshColumn(count)),
+        }
+    }
 
-fn alter_line(heap: Global, rest: &[String]) -> Result<Line, LineFault>
-    ensures { MatchResult result (WordsSay (line_words Alter rest.now)) (WordsRefused (line_words Alter rest.now)) }
-{
-    let (frame, at, change) = three_words(rest)?;
-    Ok(Line::Alter {
-        frame: number(frame)?,
-        at: number(at)?,
-        change: octets(heap, change)?,
-    })
-}
+    fn torn(&self) -> Result<Line, LineFault>
+        requires { self.now.command ≡ Torn }
+        ensures { MatchResult result (WordsSay (line_words self.now)) (WordsRefused (line_words self.now)) }
+    {
+        let [writes, junk] = self.rest else {
+            return Err(LineFault::WordCount);
+        };
+        Ok(Line::TornOpen {
+            writes: number(writes.as_str())?,
+            junk: word32(junk.as_str())?,
+        })
+    }
 
-// What a command says with the words after its own.
-fn read_command(heap: Global, command: Command, rest: &[String]) -> Result<Line, LineFault>
-    ensures { MatchResult result (WordsSay (line_words command rest.now)) (WordsRefused (line_words command rest.now)) }
-{
-    match command {
-        Command::Sender => Ok(Line::Sender(engine_after(command, rest)?)),
-        Command::Receiver => Ok(Line::Receiver(engine_after(command, rest)?)),
-        Command::Strip => strip_line(heap, rest),
-        Command::Column => column_line(heap, rest),
-        Command::Key => Ok(Line::Key(octets_after(heap, command, rest)?)),
-        Command::Label => Ok(Line::Label(octets_after(heap, command, rest)?)),
-        Command::Allowance => Ok(Line::Allowance(number_after(command, rest)?)),
-        Command::Room => Ok(Line::Room(number_after(command, rest)?)),
-        Command::Open => bare_line(command, rest, Line::Open),
-        Command::Close => bare_line(command, rest, Line::Close),
-        Command::Cut => bare_line(command, rest, Line::Cut),
-        Command::Pair => bare_line(command, rest, Line::Pair),
-        Command::Torn => torn_line(rest),
-        Command::Send => Ok(Line::Send(octets_after(heap, command, rest)?)),
-        Command::Say => bare_line(command, rest, Line::Send(Vec::new(heap))),
-        Command::Deliver => Ok(Line::Deliver(number_after(command, rest)?)),
-        Command::Alter => alter_line(heap, rest),
-        Command::Noise => Ok(Line::Noise(octets_after(heap, command, rest)?)),
+    fn alter(&self) -> Result<Line, LineFault>
+        requires { self.now.command ≡ Alter }
+        ensures { MatchResult result (WordsSay (line_words self.now)) (WordsRefused (line_words self.now)) }
+    {
+        let [frame, at, change] = self.rest else {
+            return Err(LineFault::WordCount);
+        };
+        Ok(Line::Alter {
+            frame: number(frame.as_str())?,
+            at: number(at.as_str())?,
+            change: octets(self.heap, change.as_str())?,
+        })
+    }
+
+    // What the command says with the words after its own.
+    fn line(&self) -> Result<Line, LineFault>
+        ensures { MatchResult result (WordsSay (line_words self.now)) (WordsRefused (line_words self.now)) }
+    {
+        match self.command {
+            Command::Sender => Ok(Line::Sender(self.engine()?)),
+            Command::Receiver => Ok(Line::Receiver(self.engine()?)),
+            Command::Strip => self.strip(),
+            Command::Column => self.column(),
+            Command::Key => Ok(Line::Key(self.octets()?)),
+            Command::Label => Ok(Line::Label(self.octets()?)),
+            Command::Allowance => Ok(Line::Allowance(self.number()?)),
+            Command::Room => Ok(Line::Room(self.number()?)),
+            Command::Open => self.bare(Line::Open),
+            Command::Close => self.bare(Line::Close),
+            Command::Cut => self.bare(Line::Cut),
+            Command::Pair => self.bare(Line::Pair),
+            Command::Torn => self.torn(),
+            Command::Send => Ok(Line::Send(self.octets()?)),
+            Command::Say => self.bare(Line::Send(Vec::new(self.heap))),
+            Command::Deliver => Ok(Line::Deliver(self.number()?)),
+            Command::Alter => self.alter(),
+            Command::Noise => Ok(Line::Noise(self.octets()?)),
+        }
     }
 }
 
@@ -104,7 +98,13 @@ fn read_words(heap: Global, words: &[String]) -> Result<Line, LineFault>
     let Some((first, rest)) = words.split_first() else {
         return Ok(Line::Blank);
     };
-    read_command(heap, first.as_str().parse()?, rest)
+    let command = first.as_str().parse()?;
+    CommandWords {
+        heap,
+        command,
+        rest,
+    }
+    .line()
 }
 
 // The text after `say` and a space, if the line begins so.

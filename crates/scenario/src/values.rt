@@ -3,11 +3,12 @@ ghost use Rattle.std.specs.Prelude.{◌≡◌, ℕ, List, [], ◌∷◌, map, st
 ghost use Rattle.texts.specs.Hex.{HexOf};
 ghost use Rattle.texts.specs.Names.{cipher_word, DecimalOf};
 ghost use Rattle.scenario.specs.Grammar.{engine_kind, number_kind, octets_kind, word32_kind, fresh_kind, command_word, takes, line_words, ReadAs};
-ghost use Rattle.scenario.specs.Says.{Word32Of, NumberAfter, OctetsAfter, MemoryAfter, WordsRefused};
+ghost use Rattle.scenario.specs.Says.{Word32Of, NumberAfter, OctetsAfter, MemoryAfter, WordsSay, WordsRefused};
 ghost use Rattle.scenario.specs.declared.fault.LineFault.TheVariants.{WordCount};
 
 use crate::command::Command;
 use crate::fault::LineFault;
+use crate::line::Line;
 use std::alloc::Global;
 use texts::hex::hex_octets;
 use texts::names::{CipherName, decimal_number};
@@ -19,43 +20,6 @@ pub(crate) enum Memory {
     Written(Vec<u8>),
     /// That many fresh octets or words.
     Fresh(u32),
-}
-
-// The word, where there is one and no other. Each count of words has a function of its own: a const parameter would answer an
-// array of texts that each caller takes apart again.
-fn only_word(words: &[String]) -> Result<&str, LineFault>
-    ensures { MatchResult result
-        (λ a. map string_bytes words.now ≡ a.now ∷ [])
-        (λ e. (e ≡ WordCount) × ((a : List ℕ) → map string_bytes words.now ≢ a ∷ [])) }
-{
-    match words {
-        [word] => Ok(word.as_str()),
-        _ => Err(LineFault::WordCount),
-    }
-}
-
-// The two words, where there are two.
-pub(crate) fn two_words(words: &[String]) -> Result<(&str, &str), LineFault>
-    ensures { MatchResult result
-        (λ p. map string_bytes words.now ≡ p.0.now ∷ p.1.now ∷ [])
-        (λ e. (e ≡ WordCount) × ((a b : List ℕ) → map string_bytes words.now ≢ a ∷ b ∷ [])) }
-{
-    match words {
-        [first, second] => Ok((first.as_str(), second.as_str())),
-        _ => Err(LineFault::WordCount),
-    }
-}
-
-// The three words, where there are three.
-pub(crate) fn three_words(words: &[String]) -> Result<(&str, &str, &str), LineFault>
-    ensures { MatchResult result
-        (λ p. map string_bytes words.now ≡ p.0.now ∷ p.1.now ∷ p.2.now ∷ [])
-        (λ e. (e ≡ WordCount) × ((a b d : List ℕ) → map string_bytes words.now ≢ a ∷ b ∷ d ∷ [])) }
-{
-    match words {
-        [first, second, third] => Ok((first.as_str(), second.as_str(), third.as_str())),
-        _ => Err(LineFault::WordCount),
-    }
 }
 
 // The engine that a word names. A refusal holds of any words in which that word is to name an engine.
@@ -89,51 +53,74 @@ pub(crate) fn word32(word: &str) -> Result<u32, LineFault>
     u32::from_str_radix(word, 16).map_err(|_| LineFault::BadWord32)
 }
 
-/// The engine that the one word after that of a command names.
-pub(crate) fn engine_after(command: Command, rest: &[String]) -> Result<CipherName, LineFault>
-    requires { takes command ≡ (engine_kind ∷ []) ∷ [] }
-    ensures { MatchResult result (λ c. line_words command rest.now ≡ command_word command ∷ cipher_word c ∷ []) (WordsRefused (line_words command rest.now)) }
-{
-    engine(only_word(rest)?)
+/// The words of a line that begins with a command, and the heap that what they write is put in.
+#[derive(Clone, Copy)]
+pub(crate) struct CommandWords<'a> {
+    /// The heap.
+    pub(crate) heap: Global,
+    /// The command that the first word names.
+    pub(crate) command: Command,
+    /// The words after it.
+    pub(crate) rest: &'a [String],
 }
 
-/// The number that the one word after that of a command writes.
-pub(crate) fn number_after(command: Command, rest: &[String]) -> Result<u32, LineFault>
-    requires { takes command ≡ (number_kind ∷ []) ∷ [] }
-    ensures { MatchResult result (NumberAfter (command_word command) (line_words command rest.now)) (WordsRefused (line_words command rest.now)) }
-{
-    number(only_word(rest)?)
-}
-
-/// The octets that the one word after that of a command writes, and none where no word follows.
-pub(crate) fn octets_after(
-    heap: Global,
-    command: Command,
-    rest: &[String],
-) -> Result<Vec<u8>, LineFault>
-    requires { takes command ≡ [] ∷ (octets_kind ∷ []) ∷ [] }
-    ensures { MatchResult result (λ v. OctetsAfter (command_word command) (line_words command rest.now) v.items) (WordsRefused (line_words command rest.now)) }
-{
-    if rest.is_empty() {
-        return Ok(Vec::new(heap));
+impl CommandWords<'_> {
+    /// What a command that takes no words says, where none follows it.
+    pub(crate) fn bare(&self, line: Line) -> Result<Line, LineFault>
+        requires no_words { takes self.now.command ≡ [] ∷ [] }
+        requires says { WordsSay (command_word self.now.command ∷ []) line }
+        ensures { MatchResult result (WordsSay (line_words self.now)) (WordsRefused (line_words self.now)) }
+    {
+        if self.rest.is_empty() {
+            Ok(line)
+        } else {
+            Err(LineFault::WordCount)
+        }
     }
-    octets(heap, only_word(rest)?)
-}
 
-/// The memory that is written after the word of a command: octets, or `fresh` and a number.
-pub(crate) fn memory_after(
-    heap: Global,
-    command: Command,
-    rest: &[String],
-) -> Result<Memory, LineFault>
-    requires { takes command ≡ (octets_kind ∷ []) ∷ (fresh_kind ∷ number_kind ∷ []) ∷ [] }
-    ensures { MatchResult result (MemoryAfter (command_word command) (line_words command rest.now)) (WordsRefused (line_words command rest.now)) }
-{
-    if let Ok(word) = only_word(rest) {
-        return Ok(Memory::Written(octets(heap, word)?));
+    /// The engine that the one word after that of the command names.
+    pub(crate) fn engine(&self) -> Result<CipherName, LineFault>
+        requires { takes self.now.command ≡ (engine_kind ∷ []) ∷ [] }
+        ensures { MatchResult result (λ c. line_words self.now ≡ command_word self.now.command ∷ cipher_word c ∷ []) (WordsRefused (line_words self.now)) }
+    {
+        let [word] = self.rest else {
+            return Err(LineFault::WordCount);
+        };
+        engine(word.as_str())
     }
-    match two_words(rest) {
-        Ok((mark, count)) if mark == "fresh" => Ok(Memory::Fresh(number(count)?)),
-        _ => Err(LineFault::WordCount),
+
+    /// The number that the one word after that of the command writes.
+    pub(crate) fn number(&self) -> Result<u32, LineFault>
+        requires { takes self.now.command ≡ (number_kind ∷ []) ∷ [] }
+        ensures { MatchResult result (NumberAfter (command_word self.now.command) (line_words self.now)) (WordsRefused (line_words self.now)) }
+    {
+        let [word] = self.rest else {
+            return Err(LineFault::WordCount);
+        };
+        number(word.as_str())
+    }
+
+    /// The octets that the one word after that of the command writes, and none where no word follows.
+    pub(crate) fn octets(&self) -> Result<Vec<u8>, LineFault>
+        requires { takes self.now.command ≡ [] ∷ (octets_kind ∷ []) ∷ [] }
+        ensures { MatchResult result (λ v. OctetsAfter (command_word self.now.command) (line_words self.now) v.items) (WordsRefused (line_words self.now)) }
+    {
+        match self.rest {
+            [] => Ok(Vec::new(self.heap)),
+            [word] => octets(self.heap, word.as_str()),
+            _ => Err(LineFault::WordCount),
+        }
+    }
+
+    /// The memory that is written after the word of the command: octets, or `fresh` and a number.
+    pub(crate) fn memory(&self) -> Result<Memory, LineFault>
+        requires { takes self.now.command ≡ (octets_kind ∷ []) ∷ (fresh_kind ∷ number_kind ∷ []) ∷ [] }
+        ensures { MatchResult result (MemoryAfter (command_word self.now.command) (line_words self.now)) (WordsRefused (line_words self.now)) }
+    {
+        match self.rest {
+            [word] => Ok(Memory::Written(octets(self.heap, word.as_str())?)),
+            [mark, count] if mark.as_str() == "fresh" => Ok(Memory::Fresh(number(count.as_str())?)),
+            _ => Err(LineFault::WordCount),
+        }
     }
 }
