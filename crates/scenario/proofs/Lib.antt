@@ -1,2 +1,2 @@
-pub mod Counts
+pub mod Places
 pub mod Words32

@@ -90,6 +90,7 @@ impl CommandWords<'_> {
     }
 
     /// The number that the one word after that of the command writes.
+    #[tactic(auto, using(crate::proofs::Places::one_word, crate::proofs::Places::reads_number))]
     pub(crate) fn number(&self) -> Result<u32, LineFault>
         requires { takes self.now.command ≡ (number_kind ∷ []) ∷ [] }
         ensures { MatchResult result (NumberAfter (command_word self.now.command) (line_words self.now)) (WordsRefused (line_words self.now)) }

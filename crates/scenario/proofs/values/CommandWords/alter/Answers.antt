@@ -1,7 +1,7 @@
 use Rattle.std.proofs.Common.{refl, ap}
 use Rattle.texts.proofs.Exits.{exit}
 use Rattle.scenario.specs.Grammar.{takes}
-use Rattle.scenario.proofs.Counts.{three_words, reads_frame, reads_at, reads_change}
+use Rattle.scenario.proofs.Places.{three_words, reads_frame, reads_at, reads_change}
 use Rattle.scenario.proofs.values.CommandWords.alter.Goals as goal
 
 pub returns-in_err-number : goal.returns-in_err-number

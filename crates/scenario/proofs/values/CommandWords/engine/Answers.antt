@@ -1,7 +1,7 @@
 use Rattle.std.proofs.Common.{[], ◌∷◌, ap, ◌∙◌}
 use Rattle.std.proofs.lemmas.Result.{MatchResult-weaker}
 use Rattle.scenario.specs.Grammar.{command_word}
-use Rattle.scenario.proofs.Counts.{one_word, reads_engine}
+use Rattle.scenario.proofs.Places.{one_word, reads_engine}
 use Rattle.scenario.proofs.values.CommandWords.engine.Goals as goal
 
 pub returns : goal.returns

@@ -1,7 +1,7 @@
 use Rattle.std.proofs.Common.{◌≡◌, ◌∷◌, codes, refl, ap, ◌∙◌, sym, inl, inr, rules}
 use Rattle.texts.proofs.Exits.{exit}
 use Rattle.scenario.specs.Grammar.{command_word}
-use Rattle.scenario.proofs.Counts.{one_word, two_words, reads_octets, reads_fresh}
+use Rattle.scenario.proofs.Places.{one_word, two_words, reads_octets, reads_fresh}
 use Rattle.scenario.proofs.values.CommandWords.memory.Goals as goal
 
 pub returns-in_err-octets-in-len1 : goal.returns-in_err-octets-in-len1

@@ -1,7 +1,7 @@
 use Rattle.std.proofs.Common.{◌∷◌, refl, ap, inl, inr}
 use Rattle.std.proofs.lemmas.Result.{MatchResult-weaker}
 use Rattle.scenario.specs.Grammar.{command_word}
-use Rattle.scenario.proofs.Counts.{one_word, reads_octets}
+use Rattle.scenario.proofs.Places.{one_word, reads_octets}
 use Rattle.scenario.proofs.values.CommandWords.octets.Goals as goal
 
 pub returns-in-len1 : goal.returns-in-len1

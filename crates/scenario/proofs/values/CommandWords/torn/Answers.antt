@@ -1,7 +1,7 @@
 use Rattle.std.proofs.Common.{refl, ap}
 use Rattle.texts.proofs.Exits.{exit}
 use Rattle.scenario.specs.Grammar.{takes}
-use Rattle.scenario.proofs.Counts.{two_words, reads_writes, reads_junk}
+use Rattle.scenario.proofs.Places.{two_words, reads_writes, reads_junk}
 use Rattle.scenario.proofs.values.CommandWords.torn.Goals as goal
 
 pub returns-in_err-number : goal.returns-in_err-number
