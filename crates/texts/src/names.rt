@@ -2,7 +2,6 @@
 ghost use Rattle.std.specs.Prelude.{◌≡◌, ℕ, Some, MatchOption};
 ghost use Rattle.texts.specs.Names.{cipher_word, NamesCipher, DecimalOf};
 
-use std::error::Error;
 use std::fmt;
 use std::str::FromStr;
 
@@ -66,14 +65,6 @@ impl fmt::Display for CipherName {
         f.write_str(self.word())
     }
 }
-
-impl fmt::Display for UnknownCipher {
-    fn fmt<W: fmt::Write>(&self, f: &mut fmt::Formatter<W>) -> fmt::Result {
-        f.write_str("no such cipher")
-    }
-}
-
-impl Error for UnknownCipher {}
 
 /// The number that decimal digits write, if the text is one or more digits and nothing else and the number fits 32 bits.
 pub fn decimal_number(text: &str) -> Option<u32>
