@@ -48,11 +48,10 @@ impl Error for Complaint {}
 pub fn reply_to(heap: Global, words: &[String]) -> Result<String, Complaint>
     ensures { Replied words.now result }
 {
-    // a match: the line wants memory, for which a map_err has no ?
-    let request = match read_request(heap, words) {
-        Ok(request) => request,
-        Err(fault) => return Err(Complaint::Line(format!(in heap; "{fault}")?)),
-    };
+    let request = read_request(heap, words).try_map_err(|fault| Ok(Complaint::Line(format!(in heap;
+        "{fault}"
+    )?)))?;
+    // a match: under a second try_map_err the proof does not reach the text of the line
     match answer_named(heap, &request) {
         Ok(report) => {
             let text = ReportText {

@@ -1,6 +1,6 @@
 //! The names of ciphers, and decimal numbers.
 ghost use Rattle.std.specs.Prelude.{◌≡◌, ℕ, Some, MatchOption};
-ghost use Rattle.texts.specs.Names.{cipher_word, NamesCipher, DecimalOf};
+ghost use Rattle.texts.specs.Names.{cipher_word, Names, DecimalOf};
 
 use std::fmt;
 use std::str::FromStr;
@@ -43,7 +43,7 @@ impl CipherName {
 impl FromStr for CipherName {
     type Err = UnknownCipher;
 
-    ghost from_str_gives = { NamesCipher };
+    ghost from_str_gives = { Names cipher_word };
 
     fn from_str(word: &str) -> Result<CipherName, UnknownCipher> {
         match word {
