@@ -105,7 +105,7 @@ pub fn answer<E: Engine + Drop>(
         first: request.first,
     };
     let keystream = keystream_from(heap, &mut engine, &start, request.count)?;
-    // a match, as the engine is lent to what is done with the message
+    // a match: map and transpose around a closure are longer
     let message = match &request.message {
         Some(plain) => Some(message_from(heap, &mut engine, &start, plain.as_slice())?),
         None => None,

@@ -4,7 +4,7 @@ ghost use Rattle.keystreams.specs.Replies.{Replied, complaint_text};
 ghost use Rattle.keystreams.specs.declared.replies.Complaint.TheVariants.{NoMemory};
 
 use crate::named::answer_named;
-use crate::text::{fault_line, report_text};
+use crate::text::{FaultLine, ReportText};
 use std::alloc::{AllocError, Global};
 use std::error::Error;
 use std::fmt;
@@ -48,12 +48,24 @@ impl Error for Complaint {}
 pub fn reply_to(heap: Global, words: &[String]) -> Result<String, Complaint>
     ensures { Replied words.now result }
 {
-    let request = match read_request(heap, words) {
-        Ok(request) => request,
-        Err(fault) => return Err(Complaint::Line(format!(in heap; "{fault}")?)),
-    };
+    let request = read_request(heap, words).try_map_err(|fault| Ok(Complaint::Line(format!(in heap;
+        "{fault}"
+    )?)))?;
+    // a match: under a second try_map_err the proof does not reach the text of the line
     match answer_named(heap, &request) {
-        Ok(report) => Ok(report_text(heap, &request, &report)?),
-        Err(fault) => Err(Complaint::Line(fault_line(heap, &request, fault)?)),
+        Ok(report) => {
+            let text = ReportText {
+                request: &request,
+                report: &report,
+            };
+            Ok(format!(in heap; "{text}")?)
+        }
+        Err(fault) => {
+            let line = FaultLine {
+                request: &request,
+                fault,
+            };
+            Err(Complaint::Line(format!(in heap; "{line}")?))
+        }
     }
 }

@@ -1,61 +1,86 @@
 //! The answer to a request as text, and the line that is printed where there is none.
-ghost use Rattle.std.specs.Prelude.{◌≡◌, IfOk, string_bytes};
-ghost use Rattle.keystreams.specs.Texts.{covered_text, message_text, report_text, nonce_octets, field_refused, reason_text, refusal_text, fault_line};
+ghost use Rattle.std.specs.Prelude.{◌≡◌, Some};
+ghost use Rattle.keystreams.specs.Texts.{message_text, report_text, nonce_octets, field_refused, reason_text, refusal_text, fault_line};
 
 use crate::fault::Fault;
 use crate::named::figures_named;
 use crate::report::{Covered, Report};
-use std::alloc::{AllocError, Global};
+use std::fmt;
 use stream::figures::Figures;
 use stream::refusal::Refusal;
 use texts::dump::{Dump, HexDigits};
 use workshop::request::{Nonce, Request};
 
-#[tactic(auto, unfolding(crate::specs::Texts::covered_text))]
-fn covered_text(heap: Global, first: u32, message: &Covered) -> Result<String, AllocError>
-    ensures { IfOk result (λ s. string_bytes s ≡ covered_text first message.now) }
-{
-    let plain = Dump {
-        first,
-        octets: message.plain.as_slice(),
-    };
-    let covered = Dump {
-        first,
-        octets: message.covered.as_slice(),
-    };
-    let uncovered = Dump {
-        first,
-        octets: message.uncovered.as_slice(),
-    };
-    format!(in heap; "plain\n{plain}covered\n{covered}uncovered again\n{uncovered}")
+// A message, if there is one, printed as dumps of it as it was given, covered, and uncovered again.
+// It begins at octet `first` of the keystream.
+#[derive(Clone, Copy)]
+struct MessageText<'a> {
+    first: u32,
+    message: &'a Option<Covered>,
 }
 
-fn message_text(heap: Global, first: u32, message: &Option<Covered>) -> Result<String, AllocError>
-    ensures { IfOk result (λ s. string_bytes s ≡ message_text first message.now) }
-{
-    match message {
-        Some(message) => covered_text(heap, first, message),
-        None => Ok(String::new(heap)),
+#[tactic(auto, unfolding(crate::specs::Texts::covered_text))]
+impl fmt::Display for MessageText<'_> {
+    ghost output = { λ x. Some (message_text x.first x.message.now) };
+
+    fn fmt<W: fmt::Write>(&self, f: &mut fmt::Formatter<W>) -> fmt::Result {
+        let first = self.first;
+        let Some(message) = self.message else {
+            return Ok(());
+        };
+        let plain = Dump {
+            first,
+            octets: message.plain.as_slice(),
+        };
+        let covered = Dump {
+            first,
+            octets: message.covered.as_slice(),
+        };
+        let uncovered = Dump {
+            first,
+            octets: message.uncovered.as_slice(),
+        };
+        write!(
+            f,
+            "plain\n{plain}covered\n{covered}uncovered again\n{uncovered}"
+        )
     }
 }
 
-/// A report as text: lines for the cipher, the key and the IV, a dump of the keystream octets, and, where there is a message,
+/// A report, printed as lines for the cipher, the key and the IV, a dump of the keystream octets, and, where there is a message,
 /// dumps of it as it was given, covered, and uncovered again. The offsets of all dumps are places in the keystream.
+#[derive(Clone, Copy)]
+pub struct ReportText<'a> {
+    /// The request.
+    pub request: &'a Request,
+    /// What is answered to it.
+    pub report: &'a Report,
+}
+
 #[tactic(auto, unfolding(crate::specs::Texts::report_text))]
-pub fn report_text(heap: Global, request: &Request, report: &Report) -> Result<String, AllocError>
-    ensures { IfOk result (λ s. string_bytes s ≡ report_text request.now report.now) }
-{
-    let cipher = request.cipher;
-    let key = HexDigits(request.key.as_slice());
-    let iv = HexDigits(report.iv.as_slice());
-    let keystream = Dump {
-        first: request.first,
-        octets: report.keystream.as_slice(),
-    };
-    let message = message_text(heap, request.first, &report.message)?;
-    format!(in heap;
-        "cipher    {cipher}\nkey       {key}\niv        {iv}\nkeystream\n{keystream}{message}"
-    )
+impl fmt::Display for ReportText<'_> {
+    ghost output = { λ x. Some (report_text x.request.now x.report.now) };
+
+    fn fmt<W: fmt::Write>(&self, f: &mut fmt::Formatter<W>) -> fmt::Result {
+        let request = self.request;
+        let report = self.report;
+        let first = request.first;
+        let cipher = request.cipher;
+        let key = HexDigits(request.key.as_slice());
+        let iv = HexDigits(report.iv.as_slice());
+        let keystream = Dump {
+            first,
+            octets: report.keystream.as_slice(),
+        };
+        let message = MessageText {
+            first,
+            message: &report.message,
+        };
+        write!(
+            f,
+            "cipher    {cipher}\nkey       {key}\niv        {iv}\nkeystream\n{keystream}{message}"
+        )
+    }
 }
 
 // The field that a refusal is about, where `size` names what gives how many octets are used.
@@ -81,57 +106,91 @@ fn nonce_octets(figures: Figures, nonce: &Nonce) -> usize
     }
 }
 
-// Not by `Display`: what is printed depends on the request and not on the refusal alone.
-#[tactic(auto, unfolding(crate::specs::Texts::reason_text))]
-fn reason_text(
-    heap: Global,
+// What a refusal says of a cipher with these figures and of what gives the IV.
+#[derive(Clone, Copy)]
+struct Reason<'a> {
     figures: Figures,
-    nonce: &Nonce,
+    nonce: &'a Nonce,
     refusal: Refusal,
-) -> Result<String, AllocError>
-    ensures { IfOk result (λ s. string_bytes s ≡ reason_text figures nonce.now refusal) }
-{
-    match refusal {
-        Refusal::KeyLength => {
-            let octets = figures.key;
-            format!(in heap; "its length is not the cipher's, {octets} octets")
+}
+
+#[tactic(auto, unfolding(crate::specs::Texts::reason_text))]
+impl fmt::Display for Reason<'_> {
+    ghost output = { λ x. Some (reason_text x.figures x.nonce.now x.refusal) };
+
+    fn fmt<W: fmt::Write>(&self, f: &mut fmt::Formatter<W>) -> fmt::Result {
+        match self.refusal {
+            Refusal::KeyLength => {
+                let octets = self.figures.key;
+                write!(f, "its length is not the cipher's, {octets} octets")
+            }
+            Refusal::LabelLength => {
+                let octets = nonce_octets(self.figures, self.nonce);
+                write!(f, "its length is not the cipher's, {octets} octets")
+            }
+            Refusal::ForbiddenBit => f.write_str("a bit of the IV that must be 0 is 1"),
+            Refusal::AboveAllowance => {
+                let ceiling = self.figures.ceiling;
+                write!(f, "the octets end above the ceiling, {ceiling} octets")
+            }
+            _ => f.write_str("not allowed"),
         }
-        Refusal::LabelLength => {
-            let octets = nonce_octets(figures, nonce);
-            format!(in heap; "its length is not the cipher's, {octets} octets")
-        }
-        Refusal::ForbiddenBit => String::from_str(heap, "a bit of the IV that must be 0 is 1"),
-        Refusal::AboveAllowance => {
-            let ceiling = figures.ceiling;
-            format!(in heap; "the octets end above the ceiling, {ceiling} octets")
-        }
-        _ => String::from_str(heap, "not allowed"),
     }
 }
 
-#[tactic(auto, unfolding(crate::specs::Texts::refusal_text))]
-fn refusal_text(
-    heap: Global,
-    request: &Request,
+// A refusal of a request, printed as the field at fault, the refusal's number and what it says.
+// `size` names what gives how many octets are used.
+#[derive(Clone, Copy)]
+struct RefusalText<'a> {
+    request: &'a Request,
     size: &'static str,
     refusal: Refusal,
-) -> Result<String, AllocError>
-    ensures { IfOk result (λ s. string_bytes s ≡ refusal_text request.now size.now refusal) }
-{
-    let field = field_refused(&request.nonce, size, refusal);
-    let number = refusal.number();
-    let reason = reason_text(heap, figures_named(request.cipher), &request.nonce, refusal)?;
-    format!(in heap; "{field}: refused with {number}: {reason}")
 }
 
-/// One line without its end for a fault of a request: the field at fault, the refusal's number, and what it says.
+#[tactic(auto, unfolding(crate::specs::Texts::refusal_text))]
+impl fmt::Display for RefusalText<'_> {
+    ghost output = { λ x. Some (refusal_text x.request.now x.size.now x.refusal) };
+
+    fn fmt<W: fmt::Write>(&self, f: &mut fmt::Formatter<W>) -> fmt::Result {
+        let refusal = self.refusal;
+        let nonce = &self.request.nonce;
+        let field = field_refused(nonce, self.size, refusal);
+        let number = refusal.number();
+        let reason = Reason {
+            figures: figures_named(self.request.cipher),
+            nonce,
+            refusal,
+        };
+        write!(f, "{field}: refused with {number}: {reason}")
+    }
+}
+
+/// A fault of a request, printed as one line without its end: the field at fault, the refusal's number, and what it says;
+/// or `no memory`.
+#[derive(Clone, Copy)]
+pub struct FaultLine<'a> {
+    /// The request.
+    pub request: &'a Request,
+    /// Why it has no answer.
+    pub fault: Fault,
+}
+
 #[tactic(auto, unfolding(crate::specs::Texts::fault_line))]
-pub fn fault_line(heap: Global, request: &Request, fault: Fault) -> Result<String, AllocError>
-    ensures { IfOk result (λ s. string_bytes s ≡ fault_line request.now fault) }
-{
-    match fault {
-        Fault::Refused(refusal) => refusal_text(heap, request, "first and count", refusal),
-        Fault::MessageRefused(refusal) => refusal_text(heap, request, "first and message", refusal),
-        Fault::NoMemory => String::from_str(heap, "no memory"),
+impl fmt::Display for FaultLine<'_> {
+    ghost output = { λ x. Some (fault_line x.request.now x.fault) };
+
+    fn fmt<W: fmt::Write>(&self, f: &mut fmt::Formatter<W>) -> fmt::Result {
+        let request = self.request;
+        let (size, refusal) = match self.fault {
+            Fault::Refused(refusal) => ("first and count", refusal),
+            Fault::MessageRefused(refusal) => ("first and message", refusal),
+            Fault::NoMemory => return f.write_str("no memory"),
+        };
+        let text = RefusalText {
+            request,
+            size,
+            refusal,
+        };
+        write!(f, "{text}")
     }
 }

@@ -12,9 +12,9 @@ cipher_word Grain128a = codes "grain128a"
 cipher_word Grain128aWide = codes "grain128ax32"
 cipher_word Sprout = codes "sprout"
 
--- what a word gives that is read as a cipher's name: the cipher that has that word, or an error where none has it
-abbrev pub NamesCipher : {E : Type 0} → List ℕ → Result CipherName E → Type 0
-NamesCipher w r = MatchResult r (λ c. w ≡ cipher_word c) (λ _. (c : CipherName) → w ≢ cipher_word c)
+-- what a word gives that is read as a name, where the name of x is `name x`: the x that has that name, or an error where none has it
+abbrev pub Names : {X E : Type 0} → (X → List ℕ) → List ℕ → Result X E → Type 0
+Names {X} name w r = MatchResult r (λ x. w ≡ name x) (λ _. (x : X) → w ≢ name x)
 
 -- the text is one or more decimal digits and writes n, which fits 32 bits
 pub record DecimalOf (bs : List ℕ) (n : ℕ) : Type 0 where

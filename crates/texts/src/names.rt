@@ -1,8 +1,7 @@
 //! The names of ciphers, and decimal numbers.
 ghost use Rattle.std.specs.Prelude.{◌≡◌, ℕ, Some, MatchOption};
-ghost use Rattle.texts.specs.Names.{cipher_word, NamesCipher, DecimalOf};
+ghost use Rattle.texts.specs.Names.{cipher_word, Names, DecimalOf};
 
-use std::error::Error;
 use std::fmt;
 use std::str::FromStr;
 
@@ -44,7 +43,7 @@ impl CipherName {
 impl FromStr for CipherName {
     type Err = UnknownCipher;
 
-    ghost from_str_gives = { NamesCipher };
+    ghost from_str_gives = { Names cipher_word };
 
     fn from_str(word: &str) -> Result<CipherName, UnknownCipher> {
         match word {
@@ -66,14 +65,6 @@ impl fmt::Display for CipherName {
         f.write_str(self.word())
     }
 }
-
-impl fmt::Display for UnknownCipher {
-    fn fmt<W: fmt::Write>(&self, f: &mut fmt::Formatter<W>) -> fmt::Result {
-        f.write_str("no such cipher")
-    }
-}
-
-impl Error for UnknownCipher {}
 
 /// The number that decimal digits write, if the text is one or more digits and nothing else and the number fits 32 bits.
 pub fn decimal_number(text: &str) -> Option<u32>

@@ -1,5 +1,5 @@
 -- The words of a request: a field's name, '=', and the value that the word gives the field.
-use Rattle.std.specs.Prelude.{◌≡◌, ℕ, ◌<◌, List, ◌∷◌, ◌++◌, length, take, string_bytes, codes, String, Result, MatchResult, ◌≢◌, slice_index}
+use Rattle.std.specs.Prelude.{◌≡◌, ℕ, ◌<◌, List, ◌∷◌, ◌++◌, length, take, string_bytes, codes, String, ◌≢◌, slice_index}
 use Rattle.std.specs.List.{HoldsAt, AllWithin}
 use Rattle.workshop.specs.declared.field.Field.{Field}
 use Rattle.workshop.specs.declared.field.Field.TheVariants.{Cipher, Key, Iv, Label, Session, First, Count, Message, Text}
@@ -17,10 +17,6 @@ field_name First = codes "first"
 field_name Count = codes "count"
 field_name Message = codes "message"
 field_name Text = codes "text"
-
--- what a name gives that is read as a field's: the field that has that name, or an error where none has it
-abbrev pub NamesField : List ℕ → Result Field WordFault → Type 0
-NamesField w r = MatchResult r (λ f. w ≡ field_name f) (λ e. (e ≡ UnknownField) × ((f : Field) → w ≢ field_name f))
 
 -- the text has no '='
 abbrev pub Plain : List ℕ → Type 0

@@ -1,6 +1,8 @@
 //! The fields of a request, and the words that give them.
-ghost use Rattle.std.specs.Prelude.{◌≡◌, ℕ, List, ◌∷◌, ◌++◌, Some, MatchBool, MatchOption, MatchResult};
-ghost use Rattle.workshop.specs.Fields.{field_name, NamesField, Plain, Gives, WordRefused, Given, IsGiven, NotGiven};
+ghost use Rattle.std.specs.Prelude.{◌≡◌, ℕ, List, ◌∷◌, ◌++◌, Some, IfErr, MatchBool, MatchOption, MatchResult};
+ghost use Rattle.texts.specs.Names.{Names};
+ghost use Rattle.workshop.specs.Fields.{field_name, Plain, Gives, WordRefused, Given, IsGiven, NotGiven};
+ghost use Rattle.workshop.specs.declared.field.WordFault.TheVariants.{UnknownField};
 
 use std::fmt;
 use std::str::FromStr;
@@ -60,7 +62,7 @@ impl Field {
 impl FromStr for Field {
     type Err = WordFault;
 
-    ghost from_str_gives = { NamesField };
+    ghost from_str_gives = { λ w r. Names field_name w r × IfErr r (λ e. e ≡ UnknownField) };
 
     fn from_str(name: &str) -> Result<Field, WordFault> {
         match name {
