@@ -48,9 +48,10 @@ impl Error for Complaint {}
 pub fn reply_to(heap: Global, words: &[String]) -> Result<String, Complaint>
     ensures { Replied words.now result }
 {
-    let request = read_request(heap, words).try_map_err(|fault| Ok(Complaint::Line(format!(in heap;
-        "{fault}"
-    )?)))?;
+    let request = read_request(heap, words).try_map_err(|fault| {
+        let line = format!(in heap; "{fault}")?;
+        Ok(Complaint::Line(line))
+    })?;
     // a match: under a second try_map_err the proof does not reach the text of the line
     match answer_named(heap, &request) {
         Ok(report) => {
