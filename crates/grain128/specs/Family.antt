@@ -2,7 +2,7 @@
 use Rattle.std.specs.Prelude.{◌≡◌, ℕ, ◌≤◌, Bool, T, List, ◌++◌, slice_set}
 use Rattle.std.proofs.Common.{lit≤}
 use Rattle.stream.specs.Bits.{octet_bits, times}
-use Rattle.stream.specs.Ciphers.{Cipher, Bounds}
+use Rattle.stream.specs.Ciphers.{Cipher, Bounds, OneCipher}
 use Rattle.stream.specs.declared.figures.Figures.{Figures}
 use Rattle.registers.specs.Polynomials.{Poly, S, ◌⊕◌, within, lone_b}
 use Rattle.registers.specs.Registers.{Registers, Shape, clock, value_at}
@@ -88,3 +88,8 @@ cipher m stride low high = record {
   bounds = bounds stride low high;
   forbids_free = m.forbids_free;
 }
+
+-- d is the cipher c: of one cipher with it, and with the same figures, the stride too
+pub record SameCipher (c d : Cipher) : Type 0 where
+  pub one : OneCipher c d
+  pub figures : d.figures ≡ c.figures

@@ -2,8 +2,12 @@
 ghost use Rattle.std.specs.Prelude.{ℕ, ◌≤◌};
 ghost use Rattle.std.proofs.Common.{lit≤};
 ghost use Rattle.stream.specs.Ciphers.{OneCipher};
+ghost use Rattle.grain128.specs.Family.{SameCipher};
 ghost use Rattle.grain128.specs.Grain128.{grain128, grain128x32};
 ghost use Rattle.grain128.specs.Grain128a.{grain128a, grain128ax32};
+
+use crate::engines::{Grain128, Grain128a, Grain128ax32, Grain128x32};
+use stream::engine::Engine;
 
 /// A stride of an engine.
 pub trait Stride {
@@ -44,8 +48,14 @@ impl Stride for Stride32 {
 }
 
 /// The engines of stride 1 and of stride 32 are of one cipher: `Grain128` and `Grain128x32`, and `Grain128a` and `Grain128ax32`, agree in figures but the
-/// stride, in refusals and in keystream, for every key and IV. This call states it; it computes nothing.
+/// stride, in refusals and in keystream, for every key and IV. The first two clauses say so of the ciphers, the other four that each engine's cipher is the one
+/// of its name, the stride among its figures too.
+/// This call states it; it computes nothing.
 pub fn strides_are_of_one_cipher()
     ensures plain { OneCipher grain128 grain128x32 }
     ensures revised { OneCipher grain128a grain128ax32 }
+    ensures engine128 { SameCipher grain128 ⟦<Grain128 as Engine>⟧.cipher }
+    ensures engine128x32 { SameCipher grain128x32 ⟦<Grain128x32 as Engine>⟧.cipher }
+    ensures engine128a { SameCipher grain128a ⟦<Grain128a as Engine>⟧.cipher }
+    ensures engine128ax32 { SameCipher grain128ax32 ⟦<Grain128ax32 as Engine>⟧.cipher }
 {}

@@ -66,8 +66,8 @@ impl fmt::Display for ReportText<'_> {
         let report = self.report;
         let first = request.first;
         let cipher = request.cipher;
-        let key = HexDigits(request.key.as_slice());
-        let iv = HexDigits(report.iv.as_slice());
+        let key = HexDigits::new(request.key.as_slice());
+        let iv = HexDigits::new(report.iv.as_slice());
         let keystream = Dump {
             first,
             octets: report.keystream.as_slice(),

@@ -7,7 +7,7 @@ use receiver::Received;
 use stream::refusal::Refusal;
 
 /// A key, a label and an allowance, as an open, a torn open and a pair take them.
-#[derive(Drop)]
+#[derive(Debug, Drop)]
 pub struct Pairing {
     /// The octets of the key.
     pub key: Vec<u8>,
@@ -18,7 +18,7 @@ pub struct Pairing {
 }
 
 /// A call on a sender.
-#[derive(Drop)]
+#[derive(Debug, Drop)]
 pub enum SenderCall {
     /// Open a session.
     Open(Pairing),
@@ -61,7 +61,7 @@ pub enum SenderAnswer {
 }
 
 /// A call on a sender, the buffer that is lent to it, and, once it was made, what it answered.
-#[derive(Drop)]
+#[derive(Debug, Drop)]
 pub struct SenderStep {
     /// The call.
     pub call: SenderCall,
@@ -91,7 +91,7 @@ impl SenderStep {
 }
 
 /// A call on a receiver.
-#[derive(Drop)]
+#[derive(Debug, Drop)]
 pub enum ReceiverCall {
     /// Pair the receiver.
     Pair(Pairing),
@@ -123,7 +123,7 @@ pub enum ReceiverAnswer {
 }
 
 /// A call on a receiver, the buffer that is lent to it, and, once it was made, what it answered.
-#[derive(Drop)]
+#[derive(Debug, Drop)]
 pub struct ReceiverStep {
     /// The call.
     pub call: ReceiverCall,

@@ -1,13 +1,39 @@
 -- Text that is written piece by piece.
-use Rattle.std.proofs.Common.{◌≡◌, ℕ, ◌+◌, ◌-◌, ◌*◌, ◌/◌, ◌^◌, ◌<◌, min, false, Some, option_map, List, [], ◌∷◌, ◌++◌, length, get_or, take, drop, refl, sym, ap, ◌∙◌, ⊎_elim, append-nil, arith}
+use Rattle.std.proofs.Common.{◌≡◌, ℕ, Bool, true, false, ◌+◌, ◌-◌, ◌*◌, ◌/◌, ◌%◌, ◌^◌, ◌<◌, min, Ok, Err, Result, MatchResult, IsOk, Some, option_map, All, subst, List, [], ◌∷◌, ◌++◌, length, get_or, take, drop, refl, sym, ap, ◌∙◌, ⊎_elim, append-nil, arith}
 use Rattle.std.specs.Fmt.{HasWritten, IsPlainFormatter, digits_output, styled_digits_output, radix_digits, radix_prefix, shown_prefix, padded_integral, format_spec}
 use Rattle.std.proofs.lemmas.Fmt.{hex_byte}
 use Rattle.std.specs.declared.fmt.Formatter.{Formatter}
-use Rattle.std.specs.List.{range_with_len, flat_map}
+use Rattle.std.specs.List.{range_with_len, flat_map, AllByRecursion}
+use Rattle.std.specs.Char.{digit_char}
+use Rattle.std.proofs.lemmas.List.Elements.{All-nil, All-cons, All-append}
+use Rattle.std.proofs.lemmas.List.Concat.{flat_map-cons}
 use Rattle.std.proofs.lemmas.List.FromFn.{map-range_with_len_more}
 use Rattle.std.proofs.lemmas.List.{take_more, take_all, take_at, drop_at, drop-drop, drop_all, length-drop, length-append, nil_from_length, flat_map_more, map-id}
 use Rattle.std.proofs.lemmas.Bool.{cases_lt}
-use Rattle.texts.specs.Dump.{hex_pair, dump_line, line_at, dump_text}
+use Rattle.texts.specs.Dump.{hex_pair, piece, dump_line, line_at, dump_text}
+
+-- a result that cannot be an error
+pub accepted : {X E : Type 0} (r : Result X E) (P : X → Type 0) (Q : E → Type 0) → MatchResult r P Q → ((e : E) → Q e → ⊥) → IsOk r
+accepted (Ok x) P Q m never = refl
+accepted (Err e) P Q m never = absurd (never e m)
+
+digit_small : (d : ℕ) → d < 16 → digit_char d < 128
+digit_small d fits = grind (arith)
+
+pair_ascii : (x : ℕ) → x < 256 → All (λ b. b < 128) (hex_pair x)
+pair_ascii x fits =
+    All-cons (λ b. b < 128) (digit_char (x / 16)) (digit_char (x % 16) ∷ []) (digit_small (x / 16) (omega arith))
+    (All-cons (λ b. b < 128) (digit_char (x % 16)) [] (digit_small (x % 16) (omega arith)) (All-nil (λ b. b < 128)))
+
+piece_ascii : (spaced : Bool) (x : ℕ) → x < 256 → All (λ b. b < 128) (piece spaced x)
+piece_ascii true x fits = All-cons (λ b. b < 128) 32 (hex_pair x) (omega arith) (pair_ascii x fits)
+piece_ascii false x fits = pair_ascii x fits
+
+-- the digits of octets are ASCII, and so are the spaces before them
+pub pieces_ascii : (spaced : Bool) (xs : List ℕ) → AllByRecursion (λ x. x < 256) xs → All (λ b. b < 128) (flat_map (piece spaced) xs)
+pieces_ascii spaced [] fits = All-nil (λ b. b < 128)
+pieces_ascii spaced (x ∷ xs) fits =
+    subst (All (λ b. b < 128)) (sym (flat_map-cons (piece spaced) x xs)) (All-append (λ b. b < 128) (piece spaced x) (flat_map (piece spaced) xs) (piece_ascii spaced x fits.0) (pieces_ascii spaced xs fits.1))
 
 -- nothing was written
 pub written_none : {W : Type 0} (took : W → List ℕ → W → Type 0) (f : Formatter W) → IsPlainFormatter f → HasWritten took f [] f

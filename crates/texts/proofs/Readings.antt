@@ -1,14 +1,14 @@
 -- The words of a text, part by part. A part of a text is the bytes of some characters: `encodes cs` is the bytes of the characters cs.
-use Rattle.std.proofs.Common.{◌≡◌, ℕ, ◌<◌, Bool, true, false, Some, None, Option, MatchOption, take, drop, cond, not, eqb, List, [], ◌∷◌, ◌++◌, length, refl, sym, ap, ◌∙◌, subst, append_assoc, append-nil, arith, length-append}
+use Rattle.std.proofs.Common.{◌≡◌, ℕ, ◌<◌, Bool, true, false, take, drop, cond, not, eqb, List, [], ◌∷◌, ◌++◌, length, refl, sym, ap, ◌∙◌, subst, append_assoc, append-nil, arith, length-append}
 use mathlib.Core.Bool.{◌&&◌}
 use lib.Utf8.{encode, encodes, scalar, scalars}
 use Rattle.std.specs.Char.{is_whitespace, is_not_whitespace}
 use Rattle.std.specs.Str.{NonePass, NoCharPasses, EmptyOrStartsWithPassing, IsUtf8, chars}
 use Rattle.std.proofs.lemmas.Str.{cons_from_encodes, encode_same, length-encode, len_utf8_bounds, encodes_same, encodes-chars, chars_from_encodes, scalars-chars, chars-encodes}
-use Rattle.std.specs.Str.Pattern.{HasCharAt, FindsChar, IsSplitAtFirstMatch}
+use Rattle.std.specs.Str.Pattern.{HasCharAt}
 use Rattle.std.proofs.lemmas.Bool.{ne_eqb}
 use Rattle.std.proofs.lemmas.List.{take-append-drop}
-use Rattle.texts.specs.Words.{ended, words_after, words_of}
+use Rattle.texts.specs.Words.{ended, words_after, words_of, FirstLine}
 
 white : (c : ℕ) → is_not_whitespace c ≡ false → is_whitespace c ≡ true
 white c n = not_false (is_whitespace c) n
@@ -61,14 +61,15 @@ joined true q a b c r = refl
 joined false true a b c r = refl
 joined false false a b c r = refl
 
-pub line_words : (w cs ds : List ℕ) → NonePass (λ d. eqb d 10) cs → words_after false w (cs ++ 10 ∷ ds) ≡ words_after false w cs ++ words_after false [] ds
-line_words w [] ds n = refl
-line_words w (c ∷ cs) ds n =
-    let rest = words_after false [] ds in
-    let commented = ap (λ r. ended w ++ r) (comment_line cs ds n.1) ∙ sym (append_assoc (ended w) (words_after true [] cs) rest) in
-    let spaced = ap (λ r. ended w ++ r) (line_words [] cs ds n.1) ∙ sym (append_assoc (ended w) (words_after false [] cs) rest) in
-    (λ i. cond (eqb c 35) (commented i) (cond (is_whitespace c) (spaced i) (line_words (w ++ encode c) cs ds n.1 i)))
-    ∙ joined (eqb c 35) (is_whitespace c) (ended w ++ words_after true [] cs) (ended w ++ words_after false [] cs) (words_after false (w ++ encode c) cs) rest
+-- what stands before a comment, and what follows the comment's line
+commented_words : (w cs ds es : List ℕ) → NonePass (λ d. eqb d 35) cs → NonePass (λ d. eqb d 10) ds → words_after false w (cs ++ 35 ∷ (ds ++ 10 ∷ es)) ≡ words_after false w cs ++ words_after false [] es
+commented_words w [] ds es m n = ap (λ r. ended w ++ r) (comment_line ds es n ∙ ap (λ r. r ++ words_after false [] es) (comment_words ds n))
+commented_words w (c ∷ cs) ds es m n =
+    let rest = words_after false [] es in
+    let spaced = ap (λ r. ended w ++ r) (commented_words [] cs ds es m.1 n) ∙ sym (append_assoc (ended w) (words_after false [] cs) rest) in
+    rw m.0
+    ((λ i. cond (is_whitespace c) (spaced i) (commented_words (w ++ encode c) cs ds es m.1 n i))
+    ∙ joined false (is_whitespace c) [] (ended w ++ words_after false [] cs) (words_after false (w ++ encode c) cs) rest)
 
 -- the first characters of a text
 pub parted : (gs cs : List ℕ) (rest : List ℕ) → encodes cs ≡ encodes gs ++ rest → (es : List ℕ) × (cs ≡ gs ++ es) × (encodes es ≡ rest)
@@ -172,27 +173,24 @@ cut_at c text part rest utf8 n split =
       free = λ p m. subst (NonePass p) (encodes_same m.0 n.0 (m.1 ∙ sym n.1)) m.2;
     }
 
--- the words of a line are those before its first '#'
-pub marked : (line shown rest : List ℕ) → IsUtf8 line → NoCharPasses (λ d. eqb d 10) line → NoCharPasses (λ d. eqb d 35) shown → line ≡ shown ++ (encode 35 ++ rest) → words_of shown ≡ words_of line
-marked line shown rest utf8 one none split =
-    let c = cut_at 35 line shown rest utf8 none split in
-    let left = subst (NonePass (λ d. eqb d 10)) (chars_from_encodes one.0 line utf8 one.1) one.2 in
-    ap (words_after false []) c.part_is ∙ sym (mark_words [] c.before c.after (c.free _ none) (c.none _ left)) ∙ sym (ap (words_after false []) c.whole)
+-- the words of a text are those before its first '#', where no line follows that
+pub marked : (text shown rest : List ℕ) → IsUtf8 text → NoCharPasses (λ d. eqb d 35) shown → text ≡ shown ++ (encode 35 ++ rest) → NoCharPasses (λ d. eqb d 10) rest → words_of text ≡ words_of shown
+marked text shown rest utf8 none split one =
+    let c = cut_at 35 text shown rest utf8 none split in
+    let left = subst (NonePass (λ d. eqb d 10)) (chars_from_encodes one.0 rest c.rest_utf8 one.1 ∙ c.rest_is) one.2 in
+    ap (words_after false []) c.whole ∙ mark_words [] c.before c.after (c.free _ none) left ∙ sym (ap (words_after false []) c.part_is)
 
--- the words of a text are those of its first line, and those of the rest
-pub lined : (text line rest : List ℕ) → IsUtf8 text → NoCharPasses (λ d. eqb d 10) line → text ≡ line ++ (encode 10 ++ rest) → (words_of text ≡ words_of line ++ words_of rest) × IsUtf8 rest
-lined text line rest utf8 none split =
-    let c = cut_at 10 text line rest utf8 none split in (
-      ap (words_after false []) c.whole ∙ line_words [] c.before c.after (c.free _ none)
-          ∙ (λ i. words_after false [] (sym c.part_is i) ++ words_after false [] (sym c.rest_is i)),
-      c.rest_utf8,
+-- the words of a text are those before its first '#', and those of the lines that follow that of the '#'
+pub commented : (text shown comment rest : List ℕ) → IsUtf8 text → NoCharPasses (λ d. eqb d 35) shown → text ≡ shown ++ (encode 35 ++ comment) → FirstLine comment rest
+    → (words_of text ≡ words_of shown ++ words_of rest) × IsUtf8 rest
+unfolding encode
+commented text shown comment rest utf8 none split line =
+    let c = cut_at 35 text shown comment utf8 none split in
+    let d = cut_at 10 comment line.line rest c.rest_utf8 line.plain line.whole in (
+      ap (words_after false []) (c.whole ∙ ap (λ r. c.before ++ 35 ∷ r) (sym c.rest_is ∙ d.whole)) ∙ commented_words [] c.before d.before d.after (c.free _ none) (d.free _ line.plain)
+          ∙ (λ i. words_after false [] (sym c.part_is i) ++ words_after false [] (sym d.rest_is i)),
+      d.rest_utf8,
     )
-
--- the words that are found, and the text that is left, if `more` says that there is one
-pub record Lined (words all : List (List ℕ)) (more : Bool) (text : List ℕ) : Type 0 where
-  pub utf8 : more ≡ true → IsUtf8 text
-  pub left : more ≡ true → words ++ words_of text ≡ all
-  pub closed : more ≡ false → words ≡ all
 
 -- a text cut around the first of a character
 pub around : (c : ℕ) (text part rest : List ℕ) (i j : ℕ) → NoCharPasses (λ d. eqb d c) (take i text) × HasCharAt c text i j → part ≡ take i text → rest ≡ drop j text
@@ -201,31 +199,3 @@ around c text part rest i j found front back = (
   subst (NoCharPasses (λ d. eqb d c)) (sym front) found.0,
   sym (take-append-drop i text) ∙ (λ k. sym front k ++ (found.1.split ∙ ap (λ r. encode c ++ r) (sym back)) k),
 )
-
--- the text was cut at its first '\n', if it has one
-pub record FirstLine (text line : List ℕ) (more : Bool) (rest : List ℕ) : Type 0 where
-  pub plain : NoCharPasses (λ d. eqb d 10) line
-  pub cut : more ≡ true → text ≡ line ++ (encode 10 ++ rest)
-  pub last : more ≡ false → line ≡ text
-
-pub first_line : (text line : List ℕ) (more : Bool) (rest : List ℕ) → IsSplitAtFirstMatch (FindsChar 10) text line more rest → FirstLine text line more rest
-first_line text line more rest h = by_match h.1.0 h.1.1 h.1.2
-  where
-    by_match : (o : Option (ℕ × ℕ)) → FindsChar 10 text o → MatchOption o ((line ≡ text) × (more ≡ false)) (λ q. 0 < q.1 → (line ≡ take q.0 text) × (more ≡ true) × (rest ≡ drop q.1 text)) → FirstLine text line more rest
-    by_match None none m = record { plain = subst (NoCharPasses (λ d. eqb d 10)) (sym m.0) none; cut = λ go. let not : true ≡ false = sym go ∙ m.1 in cc; last = λ stop. m.0 }
-    by_match (Some q) found m =
-        let at = m (omega (arith, found.1.ends)) in
-        let parts = around 10 text line rest q.0 q.1 found at.0 at.2 in
-        record {
-          plain = parts.0;
-          cut = λ go. parts.1;
-          last = λ stop. let not : true ≡ false = sym at.1 ∙ stop in cc;
-        }
-
--- one more line
-pub lined_more : (words all : List (List ℕ)) (text line : List ℕ) (more then : Bool) (rest : List ℕ) → Lined words all more text → more ≡ true → FirstLine text line then rest → Lined (words ++ words_of line) all then rest
-lined_more words all text line more then rest l here f = record {
-  utf8 = λ go. (lined text line rest (l.utf8 here) f.plain (f.cut go)).1;
-  left = λ go. append_assoc words (words_of line) (words_of rest) ∙ ap (λ r. words ++ r) (sym (lined text line rest (l.utf8 here) f.plain (f.cut go)).0) ∙ l.left here;
-  closed = λ stop. ap (λ t. words ++ words_of t) (f.last stop) ∙ l.left here;
-}

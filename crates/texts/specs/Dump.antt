@@ -1,12 +1,17 @@
 -- Octets written out as text: as hexadecimal digits, and as the lines of a dump.
 -- `digit_char d` is the digit of the value d, in lower case, and `flat_map f xs` is f of each of xs, one after the other.
-use Rattle.std.specs.Prelude.{ℕ, ◌+◌, ◌*◌, ◌/◌, ◌%◌, min, List, [], ◌∷◌, ◌++◌, length, take, drop}
+use Rattle.std.specs.Prelude.{ℕ, Bool, true, false, ◌+◌, ◌*◌, ◌/◌, ◌%◌, min, List, [], ◌∷◌, ◌++◌, length, take, drop}
 use Rattle.std.specs.List.{range_with_len, flat_map}
 use Rattle.std.specs.Char.{digit_char}
 
 -- the two digits of an octet, the high one first
 abbrev pub hex_pair : ℕ → List ℕ
 hex_pair x = digit_char (x / 16) ∷ digit_char (x % 16) ∷ []
+
+-- the two digits of an octet, after a space or not
+abbrev pub piece : Bool → ℕ → List ℕ
+piece true x = 32 ∷ hex_pair x
+piece false x = hex_pair x
 
 -- the digits of octets, with nothing between them
 abbrev pub hex_digits : List ℕ → List ℕ

@@ -1,9 +1,9 @@
 -- The words of a text: white space stands between them, and a '#' with what follows it on its line is a comment.
 -- `chars bs` is the characters of the text bs, `encode c` the bytes of the character c, and `is_whitespace c` says that c is white space.
-use Rattle.std.specs.Prelude.{ℕ, Bool, true, false, cond, not, List, [], ◌∷◌, ◌++◌, ◌==◌}
+use Rattle.std.specs.Prelude.{◌≡◌, ℕ, Bool, true, false, cond, not, List, [], ◌∷◌, ◌++◌, ◌==◌}
 use Rattle.std.proofs.Math.Utf8.{encode}
 use Rattle.std.specs.Char.{is_whitespace}
-use Rattle.std.specs.Str.{chars}
+use Rattle.std.specs.Str.{NoCharPasses, chars}
 
 -- a word that has come to its end, if it has a byte
 abbrev pub ended : List ℕ → List (List ℕ)
@@ -19,3 +19,9 @@ words_after false word (c ∷ cs) = cond (c == 35) (ended word ++ words_after tr
 -- the words of a text
 abbrev pub words_of : List ℕ → List (List ℕ)
 words_of bs = words_after false [] (chars bs)
+
+-- a text is a line, which has no newline, then a newline, and then the rest
+pub record FirstLine (text rest : List ℕ) : Type 0 where
+  pub line : List ℕ
+  pub plain : NoCharPasses (λ c. c == 10) line
+  pub whole : text ≡ line ++ 10 ∷ rest

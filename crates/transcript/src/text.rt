@@ -41,8 +41,8 @@ impl fmt::Display for Frame<'_> {
 
     fn fmt<W: fmt::Write>(&self, f: &mut fmt::Formatter<W>) -> fmt::Result {
         let (header, payload) = self.0.split_at(HEADER_OCTETS.min(self.0.len()));
-        let header = HexDigits(header);
-        let payload = HexDigits(payload);
+        let header = HexDigits::new(header);
+        let payload = HexDigits::new(payload);
         write!(f, "frame {header} {payload}")
     }
 }
@@ -116,7 +116,7 @@ impl fmt::Display for Plain<'_> {
     fn fmt<W: fmt::Write>(&self, f: &mut fmt::Formatter<W>) -> fmt::Result {
         let length = self.received.length;
         let distance = self.received.distance;
-        let plain = HexDigits(first_octets(self.out, length as usize));
+        let plain = HexDigits::new(first_octets(self.out, length as usize));
         write!(f, "plain {plain}, length {length}, distance {distance}")
     }
 }

@@ -8,7 +8,7 @@ pub loop-pair-init : goal.loop-pair-init
 loop-pair-init c =
     let size : chunks_exact_size c.into_iter-pair-iterator.result ≡ 2 = search rules in
     let rest : chunks_exact_rest c.into_iter-pair-iterator.result ≡ c.args.text.now = search rules in
-    let none : vec_items c.new-octets.result ≡ [] = search rules in
+    let none : vec_items c.in_ok-octets.octets ≡ [] = search rules in
     let checked = rw c.as_bytes-digits.ensures.value at c.in_ok-check_digits.ensures in
     (size, left_all _ _ _ none rest checked.0 checked.1)
 
